@@ -1,0 +1,4 @@
+pub mod Strings
+pub mod Order
+pub mod Trim
+pub mod Numbers

@@ -1,0 +1,74 @@
+-- Strings of bits, as 001 uses them: a string stands for the infinite one that goes on with zeros (section II). Where a
+-- string is turned its extension is turned too, so the bit that it goes on with, its fill, is an argument.
+use mathlib.Core.Path.{_≡_}
+use mathlib.Core.Bool.{Bool, true, false, not, cond, _&&_}
+use mathlib.Core.List.{List, [], _∷_, map}
+use Prim.Native.Nat.{ℕ, zero, suc, _+_, _*_, _<_}
+use lib.ListN.{getD, drop}
+
+abbrev pub Bits : Type 0
+Bits = List Bool
+
+-- each bit changed (001: the 1's complement)
+abbrev pub turn : Bits → Bits
+turn s = map not s
+
+-- two strings that go on with z are one infinite string (001: lexicographically equal, where z is 0)
+abbrev pub Same : Bool → Bits → Bits → Type 0
+Same z s t = (i : ℕ) → getD s i z ≡ getD t i z
+
+-- they agree in their first n bits
+abbrev pub Agree : Bool → ℕ → Bits → Bits → Type 0
+Agree z n s t = (i : ℕ) → i < n → getD s i z ≡ getD t i z
+
+-- s, going on with z, stands before t, going on with z: they agree below some place, and there s has 0 and t has 1
+pub record Before (z : Bool) (s t : Bits) : Type 0 where
+  pub place : ℕ
+  pub agree : Agree z place s t
+  pub low : getD s place z ≡ false
+  pub high : getD t place z ≡ true
+
+infix 20 _≺_
+-- the order of 001, section II: both extended by zeros
+abbrev pub _≺_ : Bits → Bits → Type 0
+s ≺ t = Before false s t
+
+-- a zero in front, unless nothing follows it
+abbrev pub behindZero : Bits → Bits
+behindZero [] = []
+behindZero (b ∷ s) = false ∷ b ∷ s
+
+-- the zeros after the last 1 dropped
+abbrev pub trimmed : Bits → Bits
+trimmed [] = []
+trimmed (false ∷ s) = behindZero (trimmed s)
+trimmed (true ∷ s) = true ∷ trimmed s
+
+-- the first n bits of s, going on with z
+abbrev pub firstBits : Bool → ℕ → Bits → Bits
+firstBits z zero s = []
+firstBits z (suc n) [] = z ∷ firstBits z n []
+firstBits z (suc n) (b ∷ s) = b ∷ firstBits z n s
+
+-- every bit is 1
+abbrev pub allOnes : Bits → Bool
+allOnes [] = true
+allOnes (b ∷ s) = b && allOnes s
+
+-- a bit as a number
+abbrev pub bitOf : Bool → ℕ
+bitOf b = cond b 1 0
+
+-- s as binary digits, read on from v: each digit doubles what is read and adds itself
+abbrev pub numberFrom : ℕ → Bits → ℕ
+numberFrom v [] = v
+numberFrom v (b ∷ s) = numberFrom (2 * v + bitOf b) s
+
+-- s as a binary number
+abbrev pub numberOf : Bits → ℕ
+numberOf s = numberFrom 0 s
+
+-- the first 8 * n bits of s, extended by zeros, as n bytes, top bit first
+abbrev pub bytesOf : ℕ → Bits → List ℕ
+bytesOf zero s = []
+bytesOf (suc n) s = numberOf (firstBits false 8 s) ∷ bytesOf n (drop 8 s)

@@ -1,0 +1,67 @@
+-- Dropping the zeros after the last 1: the infinite string stays, and strings that are the same become equal.
+use mathlib.Core.Path.{_≡_, refl, sym, _∙_, ap}
+use mathlib.Core.Bool.{Bool, true, false, true≢false, false≢true}
+use mathlib.Core.Logic.{_⊎_, inl, inr}
+use mathlib.Core.List.{List, [], _∷_, _++_}
+use Prim.Native.Nat.{ℕ, zero, suc, _≤_, suc-le-suc}
+use native.Mathlib.Omega.{arith}
+use lib.ListN.{length}
+use Rattle.bits.specs.Strings.{Bits, Same, trimmed, behindZero}
+use Rattle.bits.specs.Order.{same-trans, same-append}
+
+same-behind-zero : (s : Bits) → Same false (behindZero s) (false ∷ s)
+same-behind-zero [] zero = refl
+same-behind-zero [] (suc i) = refl
+same-behind-zero (b ∷ s) i = refl
+
+pub same-trimmed : (s : Bits) → Same false (trimmed s) s
+same-trimmed [] i = refl
+same-trimmed (true ∷ s) i = same-append false (true ∷ []) (trimmed s) s (same-trimmed s) i
+same-trimmed (false ∷ s) i =
+    same-behind-zero (trimmed s) i ∙ same-append false (false ∷ []) (trimmed s) s (same-trimmed s) i
+
+pub trimmed-same : (s t : Bits) → Same false s t → trimmed s ≡ trimmed t
+trimmed-same [] [] e = refl
+trimmed-same [] (true ∷ t) e = absurd (false≢true (e 0))
+trimmed-same [] (false ∷ t) e = ap behindZero (trimmed-same [] t (λ i. e (suc i)))
+trimmed-same (true ∷ s) [] e = absurd (true≢false (e 0))
+trimmed-same (false ∷ s) [] e = ap behindZero (trimmed-same s [] (λ i. e (suc i)))
+trimmed-same (true ∷ s) (true ∷ t) e = ap {B = Bits} (λ r. true ∷ r) (trimmed-same s t (λ i. e (suc i)))
+trimmed-same (true ∷ s) (false ∷ t) e = absurd (true≢false (e 0))
+trimmed-same (false ∷ s) (true ∷ t) e = absurd (false≢true (e 0))
+trimmed-same (false ∷ s) (false ∷ t) e = ap behindZero (trimmed-same s t (λ i. e (suc i)))
+
+behind-zero-ends : (s : Bits) → behindZero (s ++ (true ∷ [])) ≡ false ∷ (s ++ (true ∷ []))
+behind-zero-ends [] = refl
+behind-zero-ends (b ∷ s) = refl
+
+-- a string that ends in 1 has no zeros to drop
+pub trimmed-ended : (s : Bits) → trimmed (s ++ (true ∷ [])) ≡ s ++ (true ∷ [])
+trimmed-ended [] = refl
+trimmed-ended (true ∷ s) = ap {B = Bits} (λ r. true ∷ r) (trimmed-ended s)
+trimmed-ended (false ∷ s) = ap behindZero (trimmed-ended s) ∙ behind-zero-ends s
+
+-- a string whose zeros were dropped is empty or ends in 1
+pub trimmed-ends : (s : Bits) → (trimmed s ≡ []) ⊎ ((t : Bits) × (trimmed s ≡ t ++ (true ∷ [])))
+trimmed-ends [] = inl refl
+trimmed-ends (true ∷ s) = after-one (trimmed-ends s)
+  where
+    after-one : (trimmed s ≡ []) ⊎ ((t : Bits) × (trimmed s ≡ t ++ (true ∷ [])))
+        → (true ∷ trimmed s ≡ []) ⊎ ((t : Bits) × (true ∷ trimmed s ≡ t ++ (true ∷ [])))
+    after-one (inl e) = inr ([], ap {B = Bits} (λ r. true ∷ r) e)
+    after-one (inr (t, e)) = inr (true ∷ t, ap {B = Bits} (λ r. true ∷ r) e)
+trimmed-ends (false ∷ s) = after-zero (trimmed-ends s)
+  where
+    after-zero : (trimmed s ≡ []) ⊎ ((t : Bits) × (trimmed s ≡ t ++ (true ∷ [])))
+        → (behindZero (trimmed s) ≡ []) ⊎ ((t : Bits) × (behindZero (trimmed s) ≡ t ++ (true ∷ [])))
+    after-zero (inl e) = inl (ap behindZero e)
+    after-zero (inr (t, e)) = inr (false ∷ t, ap behindZero e ∙ behind-zero-ends t)
+
+behind-zero-length : (s : Bits) → length (behindZero s) ≤ suc (length s)
+behind-zero-length [] = omega arith
+behind-zero-length (b ∷ s) = omega arith
+
+pub trimmed-length : (s : Bits) → length (trimmed s) ≤ length s
+trimmed-length [] = omega arith
+trimmed-length (true ∷ s) = suc-le-suc (trimmed-length s)
+trimmed-length (false ∷ s) = omega (arith, behind-zero-length (trimmed s), trimmed-length s)

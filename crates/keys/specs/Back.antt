@@ -1,0 +1,109 @@
+-- Reading back, over any family: the value of a ratio's key is the ratio in lowest terms, and the key of a canonical key's
+-- value is that key (001, Observation 3).
+use mathlib.Core.Path.{_≡_, refl, sym, _∙_, ap}
+use mathlib.Core.Bool.{Bool, true, false, false≢true}
+use mathlib.Core.Logic.{_⊎_, inl, inr}
+use mathlib.Core.List.{List, [], _∷_, _++_, nil≢cons}
+use Prim.Native.Nat.{ℕ, zero, suc, _+_, _*_, _≤_}
+use native.Mathlib.Omega.{arith}
+use Rattle.bits.specs.Strings.{Bits, turn, Same, trimmed}
+use Rattle.bits.specs.Order.{same-append}
+use Rattle.bits.specs.Trim.{same-trimmed, trimmed-same, trimmed-ended, trimmed-ends}
+use Rattle.families.specs.Families.{Family}
+use Rattle.fractions.specs.Fractions.{Ratio, valueOf, usual, evenEnded, gcd, lowestTerms, EvenEnded}
+use Rattle.fractions.specs.Lists.{value-spread, spread-positive, even-ended-unique}
+use Rattle.fractions.specs.Euclid.{even-ended-value, even-ended-scaled, scaled-cross}
+use Rattle.fractions.specs.TwoStates.{even-ended-form}
+use Rattle.keys.specs.Keys.{spelled, written, closed, keyOf, Canonical, quotientsOf, valueOfKey}
+use Rattle.keys.specs.Spelling.{written-unique}
+use Rattle.keys.specs.Reading.{quotients-even-ended, written-same}
+
+pub closed-same : (s : Bits) → Same false (closed s) s
+closed-same [] = λ i. refl
+closed-same (b ∷ s) = same-append false (b ∷ []) (trimmed s) s (same-trimmed s)
+
+-- a canonical key has nothing to drop
+closed-canonical : (k : Bits) → Canonical k → closed k ≡ k
+closed-canonical k (inl e) = rw e
+closed-canonical k (inr ([], e)) = rw e
+closed-canonical k (inr (b ∷ s, e)) = rw e (ap {B = Bits} (λ r. b ∷ r) (trimmed-ended s))
+
+pub not-canonical : Canonical [] → ⊥
+not-canonical (inl e) = nil≢cons e
+not-canonical (inr ([], e)) = nil≢cons e
+not-canonical (inr (b ∷ s, e)) = nil≢cons e
+
+-- a string that is the same as a canonical key is closed to it
+pub closed-to : (b : Bool) (s k : Bits) → Canonical k → Same false k (b ∷ s) → closed (b ∷ s) ≡ k
+closed-to b s [] c e = absurd (not-canonical c)
+closed-to b s (d ∷ t) c e =
+    (λ i. sym (e 0) i ∷ trimmed-same s t (λ j. sym (e (suc j))) i) ∙ closed-canonical (d ∷ t) c
+
+-- canonical keys that are the same are equal
+pub canonical-same : (j k : Bits) → Canonical j → Canonical k → Same false j k → j ≡ k
+canonical-same [] k c d e = absurd (not-canonical c)
+canonical-same (b ∷ s) k c d e = sym (closed-canonical (b ∷ s) c) ∙ closed-to b s k d (λ i. sym (e i))
+
+pub canonical-closed : (b : Bool) (s : Bits) → Canonical (closed (b ∷ s))
+canonical-closed b s = by-rest b (trimmed-ends s)
+  where
+    by-rest : (b : Bool) → (trimmed s ≡ []) ⊎ ((t : Bits) × (trimmed s ≡ t ++ (true ∷ []))) → Canonical (b ∷ trimmed s)
+    by-rest true (inl e) = inr ([], ap {B = Bits} (λ r. true ∷ r) e)
+    by-rest false (inl e) = inl (ap {B = Bits} (λ r. false ∷ r) e)
+    by-rest b (inr (t, e)) = inr (b ∷ t, ap {B = Bits} (λ r. b ∷ r) e)
+
+module _ (F : Family) where
+  written-first : (l : List ℕ) → EvenEnded l → (b : Bool) × (s : Bits) × (written F l ≡ b ∷ s)
+  written-first [] h = absurd (false≢true h)
+  written-first (zero ∷ l) h = (false, turn (spelled F l), refl)
+  written-first (suc a ∷ l) h = (true, spelled F (suc a ∷ l), refl)
+
+  pub key-canonical : (p q : ℕ) → 1 ≤ q → Canonical (keyOf F p q)
+  unfolding keyOf
+  key-canonical p q h =
+      let (b, s, e) = written-first (evenEnded (usual p q)) (even-ended-form p q h) in rw e (canonical-closed b s)
+
+  -- the quotients of a ratio's key are its even-ended form
+  pub key-quotients : (p q : ℕ) → 1 ≤ q → quotientsOf F (keyOf F p q) ≡ evenEnded (usual p q)
+  unfolding keyOf
+  key-quotients p q h = written-unique F (quotientsOf F k) l (quotients-even-ended F k) (even-ended-form p q h)
+      (λ i. sym (written-same F k i) ∙ closed-same (written F l) i)
+    where
+      l : List ℕ
+      l = evenEnded (usual p q)
+
+      k : Bits
+      k = closed (written F l)
+
+  pub key-value : (p q : ℕ) → 1 ≤ q → valueOfKey F (keyOf F p q) ≡ lowestTerms p q
+  key-value p q h = ap valueOf (key-quotients p q h) ∙ even-ended-value p q h
+
+  pub value-denominator : (k : Bits) → 1 ≤ (valueOfKey F k) .den
+  value-denominator k = by-form (quotientsOf F k) (quotients-even-ended F k)
+    where
+      by-form : (l : List ℕ) → EvenEnded l → 1 ≤ (valueOf l) .den
+      by-form [] e = absurd (false≢true e)
+      by-form (a ∷ l) h = spread-positive true (valueOf l) (value-spread true l h)
+
+  -- quotients in even-ended form are the even-ended form of their value
+  even-ended-again : (l : List ℕ) → EvenEnded l → 1 ≤ (valueOf l) .den
+      → evenEnded (usual ((valueOf l) .num) ((valueOf l) .den)) ≡ l
+  even-ended-again l h d =
+      let n = (valueOf l) .num in
+      let m = (valueOf l) .den in
+      even-ended-unique (evenEnded (usual n m)) l (even-ended-form n m d) h
+      (sym (scaled-cross (gcd n m) n m (valueOf (evenEnded (usual n m))) (even-ended-scaled n m d)))
+
+  pub value-key : (k : Bits) → Canonical k → keyOf F ((valueOfKey F k) .num) ((valueOfKey F k) .den) ≡ k
+  unfolding keyOf
+  value-key k c =
+      let l = quotientsOf F k in
+      let h = quotients-even-ended F k in
+      let (b, s, e) = written-first l h in
+      rw (even-ended-again l h (value-denominator k), e) (closed-to b s k c (rw e at (written-same F k)))
+
+  -- so each canonical key is the key of exactly one ratio
+  pub key-of-one : (k : Bits) → Canonical k → (v : Ratio) × (1 ≤ v .den) × (keyOf F (v .num) (v .den) ≡ k)
+      × ((p q : ℕ) → 1 ≤ q → keyOf F p q ≡ k → lowestTerms p q ≡ v)
+  key-of-one k c =
+      (valueOfKey F k, value-denominator k, value-key k c, λ p q h e. sym (key-value p q h) ∙ ap (valueOfKey F) e)

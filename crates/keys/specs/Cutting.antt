@@ -1,0 +1,78 @@
+-- Cutting two strings to one width never changes their places, though they may become the same. What is cut never grows.
+use mathlib.Core.Path.{_≡_, refl, sym, _∙_, ap}
+use mathlib.Core.Bool.{Bool, true, false, false≢true}
+use mathlib.Core.Logic.{_⊎_, inl, inr}
+use mathlib.Core.List.{List, [], _∷_, _++_}
+use Prim.Native.Nat.{ℕ, zero, suc, _*_, _≤_, _<_}
+use native.Mathlib.Omega.{arith}
+use native.Mathlib.Decide.{decLt}
+use lib.ListN.{getD, length, take, length-take, List·getD-eq-default}
+use lib.Seq.{getD-take}
+use Rattle.bits.specs.Strings.{Bits, Same, Agree, Before, _≺_}
+use Rattle.bits.specs.Order.{same-append, before-first, before-cons, before-same}
+use Rattle.families.specs.Families.{Family}
+use Rattle.fractions.specs.Fractions.{Ratio}
+use Rattle.keys.specs.Keys.{closed, cutTo, Canonical, valueOfKey}
+use Rattle.keys.specs.Back.{closed-same, canonical-closed, canonical-same, not-canonical}
+use Rattle.keys.specs.Order.{value-order}
+
+pub cut-agree : (n : ℕ) (s : Bits) → Agree false n (cutTo n s) s
+cut-agree n s i h = closed-same (take n s) i ∙ getD-take n s i false h
+
+-- past the cut only zeros follow
+cut-zeros : (n i : ℕ) (s : Bits) → n ≤ i → getD (cutTo n s) i false ≡ false
+cut-zeros n i s h =
+    closed-same (take n s) i ∙ List·getD-eq-default (take n s) false {n = i} (rw length-take (omega arith))
+
+-- strings that stand in order once they are cut stood so before
+pub cut-order : (n : ℕ) (s t : Bits) → cutTo n s ≺ cutTo n t → s ≺ t
+cut-order n s t h = by-place (decLt (h .place) n)
+  where
+    by-place : Dec (h .place < n) → s ≺ t
+    by-place (yes l) = record {
+      place = h .place;
+      agree = λ i k. sym (cut-agree n s i (omega arith)) ∙ h .agree i k ∙ cut-agree n t i (omega arith);
+      low = sym (cut-agree n s (h .place) l) ∙ h .low;
+      high = sym (cut-agree n t (h .place) l) ∙ h .high;
+    }
+    by-place (no l) = absurd (false≢true (sym (cut-zeros n (h .place) t (omega arith)) ∙ h .high))
+
+-- strings in order are in order or the same once they are cut
+pub cut-keeps : (n : ℕ) (s t : Bits) → s ≺ t → (cutTo n s ≺ cutTo n t) ⊎ Same false (cutTo n s) (cutTo n t)
+cut-keeps n s t h = by-place (decLt (h .place) n)
+  where
+    by-place : Dec (h .place < n) → (cutTo n s ≺ cutTo n t) ⊎ Same false (cutTo n s) (cutTo n t)
+    by-place (yes l) = inl (record {
+      place = h .place;
+      agree = λ i k. cut-agree n s i (omega arith) ∙ h .agree i k ∙ sym (cut-agree n t i (omega arith));
+      low = cut-agree n s (h .place) l ∙ h .low;
+      high = cut-agree n t (h .place) l ∙ h .high;
+    })
+    by-place (no l) = inr (λ i. by-index i (decLt i n))
+      where
+        by-index : (i : ℕ) → Dec (i < n) → getD (cutTo n s) i false ≡ getD (cutTo n t) i false
+        by-index i (yes k) = cut-agree n s i k ∙ h .agree i (omega arith) ∙ sym (cut-agree n t i k)
+        by-index i (no k) = cut-zeros n i s (omega arith) ∙ sym (cut-zeros n i t (omega arith))
+
+cut-not-above : (n : ℕ) (s : Bits) → s ≺ cutTo n s → ⊥
+cut-not-above n s h = by-place (decLt (h .place) n)
+  where
+    by-place : Dec (h .place < n) → ⊥
+    by-place (yes l) = false≢true (sym (h .low) ∙ sym (cut-agree n s (h .place) l) ∙ h .high)
+    by-place (no l) = false≢true (sym (cut-zeros n (h .place) s (omega arith)) ∙ h .high)
+
+pub cut-canonical : (n : ℕ) (k : Bits) → 1 ≤ n → Canonical k → Canonical (cutTo n k)
+cut-canonical zero k h c = absurd (omega arith)
+cut-canonical (suc n) [] h c = absurd (not-canonical c)
+cut-canonical (suc n) (b ∷ s) h c = canonical-closed b (take n s)
+
+-- the value of a key that is cut is never above that of the key
+pub cut-low : (F : Family) (n : ℕ) (k : Bits) → 1 ≤ n → Canonical k
+    → (valueOfKey F (cutTo n k)) .num * (valueOfKey F k) .den ≤ (valueOfKey F k) .num * (valueOfKey F (cutTo n k)) .den
+cut-low F n k h c =
+    by-size (decLt ((valueOfKey F k) .num * (valueOfKey F (cutTo n k)) .den) ((valueOfKey F (cutTo n k)) .num * (valueOfKey F k) .den))
+  where
+    by-size : Dec ((valueOfKey F k) .num * (valueOfKey F (cutTo n k)) .den < (valueOfKey F (cutTo n k)) .num * (valueOfKey F k) .den)
+        → (valueOfKey F (cutTo n k)) .num * (valueOfKey F k) .den ≤ (valueOfKey F k) .num * (valueOfKey F (cutTo n k)) .den
+    by-size (yes u) = absurd (cut-not-above n k ((value-order F k (cutTo n k) c (cut-canonical n k h c)) .1 u))
+    by-size (no u) = omega arith

@@ -1,0 +1,63 @@
+-- Distance, 1983 words: a key of a value below 1, cut to n characters, has a value that is less than two thirds, taken n-1
+-- times as a factor, away (001, section V: a bit divides what is left two parts to one at most).
+use mathlib.Core.Path.{_≡_, refl, sym, _∙_, ap}
+use mathlib.Core.Bool.{Bool, true, false}
+use mathlib.Core.List.{List, [], _∷_}
+use Prim.Native.Nat.{ℕ, zero, suc, _+_, _*_, _-_, _^_, _≤_, _<_, suc-le-suc}
+use native.Mathlib.Nat.{mul-comm}
+use native.Mathlib.Numerals.{sub-one}
+use native.Mathlib.Omega.{arith}
+use lib.ListN.{take}
+use Rattle.bits.specs.Strings.{Bits, turn, Agree, trimmed}
+use Rattle.bits.specs.Order.{agree-turn}
+use Rattle.families.specs.Published.{words1983}
+use Rattle.fractions.specs.Fractions.{Ratio, onto, valueOf}
+use Rattle.fractions.specs.Lists.{value-spread, spread-proper}
+use Rattle.keys.specs.Keys.{spelled, read, valueOfKey, cutTo, Canonical}
+use Rattle.keys.specs.Reading.{read-spells}
+use Rattle.keys.specs.Back.{not-canonical}
+use Rattle.keys.specs.Cutting.{cut-agree}
+use Rattle.keys.specs.Near.{apart, Near}
+use Rattle.keys.specs.Close.{close}
+
+-- two strings that agree in n bits after a leading 0 are read as lists that are spelled alike in n bits
+read-agree : (n : ℕ) (s t : Bits) → Agree false n s t
+    → Agree true n (spelled words1983 (read words1983 true (turn s))) (spelled words1983 (read words1983 true (turn t)))
+read-agree n s t e i h =
+    sym ((read-spells words1983 true (turn s)) .same i) ∙ agree-turn false n s t e i h ∙ (read-spells words1983 true (turn t)) .same i
+
+-- what is near as seen from 1/0 and 0/1, in the words of the demand
+unscaled : (T P : ℕ) (x y : Ratio) → T * (1 * (1 + 0)) * apart x y < P * ((1 * x .num + 0 * x .den) * (1 * y .num + 0 * y .den))
+    → ((onto 0 y) .num * (onto 0 x) .den - (onto 0 x) .num * (onto 0 y) .den) * T < P * ((onto 0 y) .den * (onto 0 x) .den)
+unscaled T P x y h =
+    let e : (onto 0 y) .num * (onto 0 x) .den - (onto 0 x) .num * (onto 0 y) .den ≡ apart x y = omega arith in
+    rw e (omega (arith, mul-comm (apart x y) T))
+
+-- p/q, of the string k, and a/b, of k cut to n, differ by less than two thirds taken n-1 times
+abbrev pub CutNear : ℕ → Bits → Type 0
+CutNear n k =
+    let p/q = valueOfKey words1983 k in
+    let a/b = valueOfKey words1983 (cutTo n k) in
+    (p/q .num * a/b .den - a/b .num * p/q .den) * 3 ^ (n - 1) < 2 ^ (n - 1) * (p/q .den * a/b .den)
+
+after-zero : (n : ℕ) (s : Bits) → CutNear (suc n) (false ∷ s)
+after-zero n s =
+    rw sub-one
+    (unscaled (3 ^ n) (2 ^ n) (valueOf (read words1983 true (turn c))) (valueOf (read words1983 true (turn s))) (
+    (close true (read words1983 true (turn c)) (read words1983 true (turn s))
+    ((read-spells words1983 true (turn c)) .quotients) ((read-spells words1983 true (turn s)) .quotients)
+    n (read-agree n c s (λ i h. cut-agree (suc n) (false ∷ s) (suc i) (suc-le-suc h))) 0 1 (omega arith) (omega arith)) .0))
+  where
+    c : Bits
+    c = trimmed (take n s)
+
+pub cut-near : (n : ℕ) (k : Bits) → 1 ≤ n → Canonical k → (valueOfKey words1983 k) .num < (valueOfKey words1983 k) .den → CutNear n k
+cut-near zero k h c l = absurd (omega arith)
+cut-near (suc n) [] h c l = absurd (not-canonical c)
+cut-near (suc n) (false ∷ s) h c l = after-zero n s
+cut-near (suc n) (true ∷ s) h c l =
+    absurd (omega (
+      arith,
+      spread-proper false (valueOf (read words1983 false s))
+          (value-spread false (read words1983 false s) ((read-spells words1983 false s) .quotients)),
+    ))

@@ -1,0 +1,108 @@
+-- Reading a string gives quotients that are written as that string: reading undoes writing, over any family.
+use mathlib.Core.Path.{_≡_, refl, sym, _∙_, ap, subst}
+use mathlib.Core.Bool.{Bool, true, false, not, cond, true≢false, false≢true}
+use mathlib.Core.List.{List, [], _∷_, _++_}
+use Prim.Native.Nat.{ℕ, zero, suc, _+_, _*_, _-_, _≤_, _<_}
+use native.Mathlib.Omega.{arith}
+use lib.ListN.{length, getD, drop, length-drop, length-map}
+use Rattle.bits.specs.Strings.{Bits, turn, Same, allOnes}
+use Rattle.bits.specs.Order.{not-not, turn-turn, same-turn, same-append, same-drop, same-turned}
+use Rattle.bits.specs.Trim.{same-trimmed}
+use Rattle.families.specs.Families.{Below, here, there, Family, ended}
+use Rattle.fractions.specs.Fractions.{Quotients, EvenEnded}
+use Rattle.fractions.specs.Lists.{quotients-form}
+use Rattle.keys.specs.Keys.{spelled, written, readFrom, read, quotientsOf}
+
+below-length : {s t : Bits} → Below s t → 1 ≤ length s
+below-length here = omega arith
+below-length (there b h) = omega arith
+
+all-ones : (s : Bits) → allOnes s ≡ true → Same true s []
+all-ones [] e i = refl
+all-ones (true ∷ s) e zero = refl
+all-ones (true ∷ s) e (suc i) = all-ones s e i
+all-ones (false ∷ s) e i = absurd (false≢true e)
+
+-- the rounds that may be left
+abbrev left : Bool → Bits → ℕ
+left z s = 2 * length s + cond z 1 2
+
+left-falls : (f : ℕ) (z : Bool) (s w : Bits) → ended z s ≡ false → 1 ≤ length w → left z s ≤ suc f
+    → left (not z) (turn (drop (length w) s)) ≤ f
+left-falls f true [] w e k h = absurd (true≢false e)
+left-falls f true (b ∷ s) w e k h = rw (length-map, length-drop) (omega arith)
+left-falls f false s w e k h = rw (length-map, length-drop) (omega arith)
+
+-- l is what z and s spell
+pub record Spells (F : Family) (z : Bool) (s : Bits) (l : List ℕ) : Type 0 where
+  pub quotients : Quotients z l
+  pub same : Same z s (spelled F l)
+
+module _ (F : Family) where
+  spells-end : (z : Bool) (s : Bits) → ended z s ≡ true → Spells F z s []
+  spells-end true s e = record { quotients = refl; same = all-ones s e }
+  spells-end false s e = absurd (false≢true e)
+
+  spells-next : (z : Bool) (s : Bits) (a : ℕ) (rest : Bits) (l : List ℕ) → 1 ≤ a → Same z s (F .word a ++ rest)
+      → Spells F (not z) (turn (drop (length (F .word a)) s)) l → Spells F z s (a ∷ l)
+  spells-next z s a rest l h e r = record {
+    quotients = (h, r .quotients);
+    same = λ i. e i ∙ same-append z (F .word a) rest (turn (spelled F l))
+        (λ j. sym (same-drop z s (F .word a) rest e j) ∙ same-turned z (drop (length (F .word a)) s) (spelled F l) (r .same) j) i;
+  }
+
+  read-end : (f : ℕ) (z : Bool) (s : Bits) → ended z s ≡ true → readFrom F (suc f) z s ≡ []
+  unfolding readFrom
+  read-end f z s e = rw (e, readFrom)
+
+  read-next : (f : ℕ) (z : Bool) (s : Bits) → ended z s ≡ false
+      → readFrom F (suc f) z s ≡ F .first z s ∷ readFrom F f (not z) (turn (drop (length (F .word (F .first z s))) s))
+  unfolding readFrom
+  read-next f z s e = rw (e, readFrom)
+
+  read-from-spells : (f : ℕ) (z : Bool) (s : Bits) → left z s ≤ f → Spells F z s (readFrom F f z s)
+  read-from-spells zero true s h = absurd (omega arith)
+  read-from-spells zero false s h = absurd (omega arith)
+  read-from-spells (suc f) z s h =
+      by-test (ended z s) refl (read-from-spells f (not z) (turn (drop (length (F .word (F .first z s))) s)))
+    where
+      a : ℕ
+      a = F .first z s
+
+      rest : Bits
+      rest = turn (drop (length (F .word a)) s)
+
+      by-test : (b : Bool) → ended z s ≡ b → (left (not z) rest ≤ f → Spells F (not z) rest (readFrom F f (not z) rest))
+          → Spells F z s (readFrom F (suc f) z s)
+      by-test true e again = rw (read-end f z s e) (spells-end z s e)
+      by-test false e again =
+          let (k, (r, q)) = F .complete z s e in
+          rw (read-next f z s e)
+          (spells-next z s a r (readFrom F f (not z) rest) k q
+          (again (left-falls f z s (F .word a) e (below-length (F .rising a (suc a) k (omega arith))) h)))
+
+  pub read-spells : (z : Bool) (s : Bits) → Spells F z s (read F z s)
+  unfolding read
+  read-spells true s = read-from-spells (2 * length s + 2) true s (omega arith)
+  read-spells false s = read-from-spells (2 * length s + 2) false s (omega arith)
+
+  -- the quotients of a key are in even-ended form
+  pub quotients-even-ended : (k : Bits) → EvenEnded (quotientsOf F k)
+  quotients-even-ended [] = refl
+  quotients-even-ended (true ∷ s) = quotients-form false (read F false s) ((read-spells false s) .quotients)
+  quotients-even-ended (false ∷ s) = (read-spells true (turn s)) .quotients
+
+  written-from-one : (l : List ℕ) → Quotients false l → written F l ≡ true ∷ spelled F l
+  written-from-one [] h = absurd (false≢true h)
+  written-from-one (zero ∷ l) (h, t) = absurd (omega arith)
+  written-from-one (suc a ∷ l) h = refl
+
+  -- and are written as that key
+  pub written-same : (k : Bits) → Same false k (written F (quotientsOf F k))
+  written-same [] = same-trimmed (false ∷ [])
+  written-same (true ∷ s) =
+      rw (written-from-one (read F false s) ((read-spells false s) .quotients))
+      (same-append false (true ∷ []) s (spelled F (read F false s)) ((read-spells false s) .same))
+  written-same (false ∷ s) =
+      same-append false (false ∷ []) s (turn (spelled F (read F true (turn s))))
+      (same-turned false s (spelled F (read F true (turn s))) ((read-spells true (turn s)) .same))
