@@ -6,17 +6,17 @@ use Prim.Native.Nat.{ℕ, zero, suc, _+_, _*_, _^_, _<_}
 use native.Mathlib.Nat.{pow-suc}
 use native.Mathlib.Omega.{arith}
 use lib.ListN.{length, length-map, replicate, length-replicate}
-use Rattle.bits.specs.Strings.{Bits, turn, bitOf, numberFrom, numberOf}
+use Rattle.bits.specs.Strings.{Bits, turn, digitOf, numberFrom, numberOf}
 
 -- to read s on from v is to shift v by the length of s and to add s
 pub number-from : (v : ℕ) (s : Bits) → numberFrom v s ≡ v * 2 ^ length s + numberOf s
 number-from v [] = omega arith
 number-from v (b ∷ s) =
-    omega (arith, number-from (2 * v + bitOf b) s, number-from (2 * 0 + bitOf b) s, ap (λ (x : ℕ). v * x) (pow-suc 2 (length s)))
+    omega (arith, number-from (2 * v + digitOf b) s, number-from (2 * 0 + digitOf b) s, ap (λ (x : ℕ). v * x) (pow-suc 2 (length s)))
 
 pub number-append : (v : ℕ) (s t : Bits) → numberFrom v (s ++ t) ≡ numberFrom (numberFrom v s) t
 number-append v [] t = refl
-number-append v (b ∷ s) t = number-append (2 * v + bitOf b) s t
+number-append v (b ∷ s) t = number-append (2 * v + digitOf b) s t
 
 -- a string and the turned one add up to all ones
 pub number-turn : (s : Bits) → numberOf s + numberOf (turn s) + 1 ≡ 2 ^ length s

@@ -3,11 +3,19 @@
 use mathlib.Core.Path.{_≡_}
 use mathlib.Core.Bool.{Bool, true, false, not, cond, _&&_}
 use mathlib.Core.List.{List, [], _∷_, map}
+use Prim.Native.Char.{code}
+use Prim.Native.String.{String, [] as []ᵗ, _∷_ as _∷ᵗ_}
 use Prim.Native.Nat.{ℕ, zero, suc, _+_, _*_, _<_}
+use lib.Dec.{eqb}
 use lib.ListN.{getD, drop}
 
 abbrev pub Bits : Type 0
 Bits = List Bool
+
+-- the bits of a printed string of characters 0 and 1
+unfoldable pub bitsOf : String → Bits
+bitsOf []ᵗ = []
+bitsOf (c ∷ᵗ s) = eqb (code c) 49 ∷ bitsOf s
 
 -- each bit changed (001: the 1's complement)
 abbrev pub turn : Bits → Bits
@@ -56,13 +64,13 @@ allOnes [] = true
 allOnes (b ∷ s) = b && allOnes s
 
 -- a bit as a number
-abbrev pub bitOf : Bool → ℕ
-bitOf b = cond b 1 0
+abbrev pub digitOf : Bool → ℕ
+digitOf b = cond b 1 0
 
 -- s as binary digits, read on from v: each digit doubles what is read and adds itself
 abbrev pub numberFrom : ℕ → Bits → ℕ
 numberFrom v [] = v
-numberFrom v (b ∷ s) = numberFrom (2 * v + bitOf b) s
+numberFrom v (b ∷ s) = numberFrom (2 * v + digitOf b) s
 
 -- s as a binary number
 abbrev pub numberOf : Bits → ℕ

@@ -11,7 +11,7 @@ use borrow.Author.Tests.{lt-ltb, le-ltb, eqb-true, eqb-false}
 use lib.Dec.{eqb}
 use lib.Pow.{pow-mono}
 use lib.ListN.{length}
-use Rattle.bits.specs.Strings.{Bits, bitOf, numberFrom}
+use Rattle.bits.specs.Strings.{Bits, digitOf, numberFrom}
 use Rattle.bits.specs.Numbers.{number-from, number-append, number-lt}
 use Rattle.families.specs.Families.{Below, here, there}
 use Rattle.families.specs.Words.{digitsFrom, digitsAfterOne}
@@ -25,10 +25,10 @@ digits-step : (f i : ℕ) → 2 ≤ i → digitsFrom (suc f) i ≡ digitsFrom f 
 unfolding digitsFrom
 digits-step f i h = rw (le-ltb i 2 h, digitsFrom)
 
-last-digit : (i : ℕ) → 2 * (i / 2) + bitOf (eqb (i % 2) 1) ≡ i
+last-digit : (i : ℕ) → 2 * (i / 2) + digitOf (eqb (i % 2) 1) ≡ i
 last-digit i = by-test (eqb (i % 2) 1) refl
   where
-    by-test : (b : Bool) → eqb (i % 2) 1 ≡ b → 2 * (i / 2) + bitOf b ≡ i
+    by-test : (b : Bool) → eqb (i % 2) 1 ≡ b → 2 * (i / 2) + digitOf b ≡ i
     by-test true e = omega (arith, eqb-true (i % 2) 1 e)
     by-test false e = let n : i % 2 ≡ 1 → ⊥ = eqb-false (i % 2) 1 e in omega arith
 
@@ -64,7 +64,7 @@ below-number v (here {s = s} {t = t}) e =
       ap (λ (n : ℕ). (2 * v + 1) * 2 ^ n) (suc-inj e),
       ap (λ (n : ℕ). 2 ^ n) (suc-inj e),
     )
-below-number v (there b h) e = below-number (2 * v + bitOf b) h (suc-inj e)
+below-number v (there b h) e = below-number (2 * v + digitOf b) h (suc-inj e)
 
 compared : (s t : Bits) → length s ≡ length t → Below s t ⊎ ((s ≡ t) ⊎ Below t s)
 compared [] [] e = inr (inl refl)

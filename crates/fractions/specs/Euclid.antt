@@ -3,9 +3,52 @@
 use mathlib.Core.Path.{_≡_, refl, sym, _∙_, ap}
 use mathlib.Core.List.{List, [], _∷_}
 use Prim.Native.Nat.{ℕ, zero, suc, _+_, _*_, _-_, _/_, _%_, _≤_, _<_}
-use native.Mathlib.Nat.{div-add-mod', mod-lt, le-div-iff-mul-le, mul-div-right, mul-sub, eq-one-of-dvd-one}
+use native.Mathlib.Nat.{div-add-mod', div-eq-of-lt-le, mod-lt, le-div-iff-mul-le, mul-div-right, mul-sub, eq-one-of-dvd-one}
 use native.Mathlib.Omega.{arith}
-use Rattle.fractions.specs.Fractions.{Ratio, onto, valueOf, dividedFrom, usual, gcd, lowestTerms, evenEnded}
+use Rattle.fractions.specs.Fractions.{Ratio, onto, valueOf, Divided, led, dividedFrom, usual, gcd, lowestTerms, evenEnded, formOf}
+
+pub quotient-unique : (x b q r : ℕ) → x ≡ b * q + r → r < q → (x / q ≡ b) × (x % q ≡ r)
+quotient-unique x b q r e h = (d, omega (arith, div-add-mod' x q, ap (λ (y : ℕ). y * q) d))
+  where
+    d : x / q ≡ b
+    d = div-eq-of-lt-le q {m = x} (omega arith) (omega arith)
+
+-- enough steps give the same
+divided-enough : (f g p q : ℕ) → q ≤ f → q ≤ g → dividedFrom f p q ≡ dividedFrom g p q
+unfolding dividedFrom
+divided-enough zero zero p q l m = refl
+divided-enough zero (suc g) p zero l m = refl
+divided-enough zero (suc g) p (suc q) l m = absurd (omega arith)
+divided-enough (suc f) zero p zero l m = refl
+divided-enough (suc f) zero p (suc q) l m = absurd (omega arith)
+divided-enough (suc f) (suc g) p zero l m = refl
+divided-enough (suc f) (suc g) p (suc q) l m =
+    let r : p % suc q < suc q = mod-lt p (omega arith) in
+    ap (led (p / suc q)) (divided-enough f g (suc q) (p % suc q) (omega arith) (omega arith))
+
+-- one step, at the quotient b and the remainder r
+divided-step : (p q b r : ℕ) → p ≡ b * q + r → r < q → dividedFrom q p q ≡ led b (dividedFrom r q r)
+unfolding dividedFrom
+divided-step p zero b r e h = absurd (omega arith)
+divided-step p (suc q) b r e h =
+    let (d, m) = quotient-unique p b (suc q) r e h in
+    rw (d, m) (ap (led b) (divided-enough q r (suc q) r (omega arith) (omega arith)))
+
+pub usual-end : (p : ℕ) → usual p 0 ≡ []
+unfolding usual dividedFrom
+usual-end p = refl
+
+pub usual-step : (p q b r : ℕ) → p ≡ b * q + r → r < q → usual p q ≡ b ∷ usual q r
+unfolding usual
+usual-step p q b r e h = ap (λ (d : Divided). d .quotients) (divided-step p q b r e h)
+
+pub gcd-end : (p : ℕ) → gcd p 0 ≡ p
+unfolding gcd dividedFrom
+gcd-end p = refl
+
+pub gcd-step : (p q b r : ℕ) → p ≡ b * q + r → r < q → gcd p q ≡ gcd q r
+unfolding gcd
+gcd-step p q b r e h = ap (λ (d : Divided). d .divisor) (divided-step p q b r e h)
 
 -- p/q is v, with g in both
 pub record Scaled (g p q : ℕ) (v : Ratio) : Type 0 where
@@ -68,15 +111,15 @@ even-ended-same a [] h = refl
 even-ended-same a (b ∷ []) (h, t) = ap (onto a) (split-last b h)
 even-ended-same a (b ∷ c ∷ l) (h, (k, t)) = ap (λ (v : Ratio). onto a (onto b v)) (even-ended-same c l t)
 
-pub even-ended-value : (p q : ℕ) → 1 ≤ q → valueOf (evenEnded (usual p q)) ≡ lowestTerms p q
-unfolding usual dividedFrom
-even-ended-value p zero h = absurd (omega arith)
-even-ended-value p (suc q) h =
+pub form-value : (p q : ℕ) → 1 ≤ q → valueOf (formOf p q) ≡ lowestTerms p q
+unfolding formOf usual dividedFrom
+form-value p zero h = absurd (omega arith)
+form-value p (suc q) h =
     even-ended-same (p / suc q) ((dividedFrom q (suc q) (p % suc q)) .quotients)
     (quotients-positive q (suc q) (p % suc q) (mod-lt p (omega arith))) ∙ usual-value p (suc q) h
 
-pub even-ended-scaled : (p q : ℕ) → 1 ≤ q → Scaled (gcd p q) p q (valueOf (evenEnded (usual p q)))
-even-ended-scaled p q h = rw (even-ended-value, ← usual-value p q h) (usual-scaled p q h)
+pub form-scaled : (p q : ℕ) → 1 ≤ q → Scaled (gcd p q) p q (valueOf (formOf p q))
+form-scaled p q h = rw (form-value, ← usual-value p q h) (usual-scaled p q h)
 
 -- 1 alone divides both numerator and denominator of a value
 value-coprime : (l : List ℕ) (c x y : ℕ) → (valueOf l) .num ≡ c * x → (valueOf l) .den ≡ c * y → c ≡ 1

@@ -9,13 +9,17 @@ pub record Ratio : Type 0 where
   pub num : ℕ
   pub den : ℕ
 
+infix 25 _over_
+abbrev pub _over_ : ℕ → ℕ → Ratio
+p over q = record { num = p; den = q }
+
 -- a + 1/v
 abbrev pub onto : ℕ → Ratio → Ratio
-onto a v = record { num = a * v .num + v .den; den = v .num }
+onto a v = (a * v .num + v .den) over (v .num)
 
 -- the value of the quotients a0, a1, .. : a0 + 1/(a1 + 1/(..)), where nothing stands for infinity
 abbrev pub valueOf : List ℕ → Ratio
-valueOf [] = record { num = 1; den = 0 }
+valueOf [] = 1 over 0
 valueOf (a ∷ l) = onto a (valueOf l)
 
 -- what repeated remainder finds: the quotients and the last divisor
@@ -23,13 +27,15 @@ pub record Divided : Type 0 where
   pub quotients : List ℕ
   pub divisor : ℕ
 
+-- a quotient more in front
+abbrev pub led : ℕ → Divided → Divided
+led a d = record { quotients = a ∷ d .quotients; divisor = d .divisor }
+
 -- p divided by q, q by the remainder, and so on; the divisor falls at each step, so q steps are enough
 unfoldable pub dividedFrom : ℕ → ℕ → ℕ → Divided
 dividedFrom zero p q = record { quotients = []; divisor = p }
 dividedFrom (suc f) p zero = record { quotients = []; divisor = p }
-dividedFrom (suc f) p (suc q) =
-    let next = dividedFrom f (suc q) (p % suc q) in
-    record { quotients = p / suc q ∷ next .quotients; divisor = next .divisor }
+dividedFrom (suc f) p (suc q) = led (p / suc q) (dividedFrom f (suc q) (p % suc q))
 
 -- the usual continued fraction of p/q
 unfoldable pub usual : ℕ → ℕ → List ℕ
@@ -41,7 +47,7 @@ gcd p q = (dividedFrom q p q) .divisor
 
 -- p/q in lowest terms; zero is 0/1
 unfoldable pub lowestTerms : ℕ → ℕ → Ratio
-lowestTerms p q = record { num = p / gcd p q; den = q / gcd p q }
+lowestTerms p q = (p / gcd p q) over (q / gcd p q)
 
 -- the form whose last index is even: a last quotient a at an odd index is written a-1, 1
 abbrev pub evenEnded : List ℕ → List ℕ
@@ -49,6 +55,10 @@ evenEnded [] = []
 evenEnded (a ∷ []) = a ∷ []
 evenEnded (a ∷ b ∷ []) = a ∷ (b - 1) ∷ 1 ∷ []
 evenEnded (a ∷ b ∷ c ∷ l) = a ∷ b ∷ evenEnded (c ∷ l)
+
+-- the even-ended form of p/q
+unfoldable pub formOf : ℕ → ℕ → List ℕ
+formOf p q = evenEnded (usual p q)
 
 -- quotients of at least 1, of which the last is spelled by a word, where the first is by a word (false) or a turned word (true)
 abbrev pub Quotients : Bool → List ℕ → Type 0

@@ -10,10 +10,10 @@ use Rattle.bits.specs.Strings.{Bits, turn, Same, trimmed}
 use Rattle.bits.specs.Order.{same-append}
 use Rattle.bits.specs.Trim.{same-trimmed, trimmed-same, trimmed-ended, trimmed-ends}
 use Rattle.families.specs.Families.{Family}
-use Rattle.fractions.specs.Fractions.{Ratio, valueOf, usual, evenEnded, gcd, lowestTerms, EvenEnded}
+use Rattle.fractions.specs.Fractions.{Ratio, _over_, valueOf, formOf, gcd, lowestTerms, EvenEnded}
 use Rattle.fractions.specs.Lists.{value-spread, spread-positive, even-ended-unique}
-use Rattle.fractions.specs.Euclid.{even-ended-value, even-ended-scaled, scaled-cross}
-use Rattle.fractions.specs.TwoStates.{even-ended-form}
+use Rattle.fractions.specs.Euclid.{form-value, form-scaled, scaled-cross}
+use Rattle.fractions.specs.TwoStates.{form-even-ended}
 use Rattle.keys.specs.Keys.{spelled, written, closed, keyOf, Canonical, quotientsOf, valueOfKey}
 use Rattle.keys.specs.Spelling.{written-unique}
 use Rattle.keys.specs.Reading.{quotients-even-ended, written-same}
@@ -61,22 +61,22 @@ module _ (F : Family) where
   pub key-canonical : (p q : ℕ) → 1 ≤ q → Canonical (keyOf F p q)
   unfolding keyOf
   key-canonical p q h =
-      let (b, s, e) = written-first (evenEnded (usual p q)) (even-ended-form p q h) in rw e (canonical-closed b s)
+      let (b, s, e) = written-first (formOf p q) (form-even-ended p q h) in rw e (canonical-closed b s)
 
   -- the quotients of a ratio's key are its even-ended form
-  pub key-quotients : (p q : ℕ) → 1 ≤ q → quotientsOf F (keyOf F p q) ≡ evenEnded (usual p q)
+  pub key-quotients : (p q : ℕ) → 1 ≤ q → quotientsOf F (keyOf F p q) ≡ formOf p q
   unfolding keyOf
-  key-quotients p q h = written-unique F (quotientsOf F k) l (quotients-even-ended F k) (even-ended-form p q h)
+  key-quotients p q h = written-unique F (quotientsOf F k) l (quotients-even-ended F k) (form-even-ended p q h)
       (λ i. sym (written-same F k i) ∙ closed-same (written F l) i)
     where
       l : List ℕ
-      l = evenEnded (usual p q)
+      l = formOf p q
 
       k : Bits
       k = closed (written F l)
 
   pub key-value : (p q : ℕ) → 1 ≤ q → valueOfKey F (keyOf F p q) ≡ lowestTerms p q
-  key-value p q h = ap valueOf (key-quotients p q h) ∙ even-ended-value p q h
+  key-value p q h = ap valueOf (key-quotients p q h) ∙ form-value p q h
 
   pub value-denominator : (k : Bits) → 1 ≤ (valueOfKey F k) .den
   value-denominator k = by-form (quotientsOf F k) (quotients-even-ended F k)
@@ -87,23 +87,25 @@ module _ (F : Family) where
 
   -- quotients in even-ended form are the even-ended form of their value
   even-ended-again : (l : List ℕ) → EvenEnded l → 1 ≤ (valueOf l) .den
-      → evenEnded (usual ((valueOf l) .num) ((valueOf l) .den)) ≡ l
+      → formOf ((valueOf l) .num) ((valueOf l) .den) ≡ l
   even-ended-again l h d =
       let n = (valueOf l) .num in
       let m = (valueOf l) .den in
-      even-ended-unique (evenEnded (usual n m)) l (even-ended-form n m d) h
-      (sym (scaled-cross (gcd n m) n m (valueOf (evenEnded (usual n m))) (even-ended-scaled n m d)))
+      even-ended-unique (formOf n m) l (form-even-ended n m d) h
+      (sym (scaled-cross (gcd n m) n m (valueOf (formOf n m)) (form-scaled n m d)))
 
-  pub value-key : (k : Bits) → Canonical k → keyOf F ((valueOfKey F k) .num) ((valueOfKey F k) .den) ≡ k
+  pub value-key : (k : Bits) (p q : ℕ) → Canonical k → valueOfKey F k ≡ p over q → keyOf F p q ≡ k
   unfolding keyOf
-  value-key k c =
+  value-key k p q c v =
       let l = quotientsOf F k in
       let h = quotients-even-ended F k in
       let (b, s, e) = written-first l h in
-      rw (even-ended-again l h (value-denominator k), e) (closed-to b s k c (rw e at (written-same F k)))
+      let again : formOf p q ≡ l = rw v at (even-ended-again l h (value-denominator k)) in
+      rw (again, e) (closed-to b s k c (rw e at (written-same F k)))
 
   -- so each canonical key is the key of exactly one ratio
   pub key-of-one : (k : Bits) → Canonical k → (v : Ratio) × (1 ≤ v .den) × (keyOf F (v .num) (v .den) ≡ k)
       × ((p q : ℕ) → 1 ≤ q → keyOf F p q ≡ k → lowestTerms p q ≡ v)
   key-of-one k c =
-      (valueOfKey F k, value-denominator k, value-key k c, λ p q h e. sym (key-value p q h) ∙ ap (valueOfKey F) e)
+      let v = valueOfKey F k in
+      (v, value-denominator k, value-key k (v .num) (v .den) c refl, λ p q h e. sym (key-value p q h) ∙ ap (valueOfKey F) e)

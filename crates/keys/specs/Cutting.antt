@@ -76,3 +76,12 @@ cut-low F n k h c =
         → (valueOfKey F (cutTo n k)) .num * (valueOfKey F k) .den ≤ (valueOfKey F k) .num * (valueOfKey F (cutTo n k)) .den
     by-size (yes u) = absurd (cut-not-above n k ((value-order F k (cutTo n k) c (cut-canonical n k h c)) .1 u))
     by-size (no u) = omega arith
+
+-- keys in order are in order or equal once they are cut
+pub cut-places : (j k : Bits) (n : ℕ) → Canonical j → Canonical k → 1 ≤ n
+    → j ≺ k → (cutTo n j ≺ cutTo n k) ⊎ (cutTo n j ≡ cutTo n k)
+cut-places j k n c d h l = by-cut (cut-keeps n j k l)
+  where
+    by-cut : (cutTo n j ≺ cutTo n k) ⊎ Same false (cutTo n j) (cutTo n k) → (cutTo n j ≺ cutTo n k) ⊎ (cutTo n j ≡ cutTo n k)
+    by-cut (inl b) = inl b
+    by-cut (inr s) = inr (canonical-same (cutTo n j) (cutTo n k) (cut-canonical n j h c) (cut-canonical n k h d) s)

@@ -11,12 +11,12 @@ use lib.ListN.{take}
 use Rattle.bits.specs.Strings.{Bits, turn, Agree, trimmed}
 use Rattle.bits.specs.Order.{agree-turn}
 use Rattle.families.specs.Published.{words1983}
-use Rattle.fractions.specs.Fractions.{Ratio, onto, valueOf}
+use Rattle.fractions.specs.Fractions.{Ratio, _over_, onto, valueOf}
 use Rattle.fractions.specs.Lists.{value-spread, spread-proper}
 use Rattle.keys.specs.Keys.{spelled, read, valueOfKey, cutTo, Canonical}
 use Rattle.keys.specs.Reading.{read-spells}
 use Rattle.keys.specs.Back.{not-canonical}
-use Rattle.keys.specs.Cutting.{cut-agree}
+use Rattle.keys.specs.Cutting.{cut-agree, cut-low}
 use Rattle.keys.specs.Near.{apart, Near}
 use Rattle.keys.specs.Close.{close}
 
@@ -34,7 +34,7 @@ unscaled T P x y h =
     rw e (omega (arith, mul-comm (apart x y) T))
 
 -- p/q, of the string k, and a/b, of k cut to n, differ by less than two thirds taken n-1 times
-abbrev pub CutNear : ℕ → Bits → Type 0
+abbrev CutNear : ℕ → Bits → Type 0
 CutNear n k =
     let p/q = valueOfKey words1983 k in
     let a/b = valueOfKey words1983 (cutTo n k) in
@@ -51,13 +51,19 @@ after-zero n s =
     c : Bits
     c = trimmed (take n s)
 
-pub cut-near : (n : ℕ) (k : Bits) → 1 ≤ n → Canonical k → (valueOfKey words1983 k) .num < (valueOfKey words1983 k) .den → CutNear n k
-cut-near zero k h c l = absurd (omega arith)
-cut-near (suc n) [] h c l = absurd (not-canonical c)
-cut-near (suc n) (false ∷ s) h c l = after-zero n s
-cut-near (suc n) (true ∷ s) h c l =
+below-one : (n : ℕ) (k : Bits) → 1 ≤ n → Canonical k → (valueOfKey words1983 k) .num < (valueOfKey words1983 k) .den → CutNear n k
+below-one zero k h c l = absurd (omega arith)
+below-one (suc n) [] h c l = absurd (not-canonical c)
+below-one (suc n) (false ∷ s) h c l = after-zero n s
+below-one (suc n) (true ∷ s) h c l =
     absurd (omega (
       arith,
       spread-proper false (valueOf (read words1983 false s))
           (value-spread false (read words1983 false s) ((read-spells words1983 false s) .quotients)),
     ))
+
+pub cut-distance : (k : Bits) (n p q a b : ℕ) → Canonical k → 1 ≤ n
+    → valueOfKey words1983 k ≡ p over q → p < q → valueOfKey words1983 (cutTo n k) ≡ a over b
+    → (a * q ≤ p * b) × ((p * b - a * q) * 3 ^ (n - 1) < 2 ^ (n - 1) * (q * b))
+cut-distance k n p q a b c h v l w =
+    (rw (v, w) at (cut-low words1983 n k h c), rw (v, w) at (below-one n k h c (rw v l)))

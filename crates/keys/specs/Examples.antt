@@ -1,32 +1,52 @@
--- trial
+-- What 001 and the scope print of keys, beside the table of whole keys, comes out by running the definitions.
 use mathlib.Core.Path.{_≡_, refl}
-use mathlib.Core.Bool.{Bool, true, false, not}
-use mathlib.Core.List.{List, [], _∷_, _++_}
+use mathlib.Core.List.{List, [], _∷_, _++_, map}
 use Prim.Native.Nat.{ℕ}
 use lib.ListN.{replicate}
-use Rattle.bits.specs.Strings.{Bits}
-use Rattle.families.specs.Families.{Family}
-use Rattle.families.specs.Words.{wordOf, digitsFrom, digitsAfterOne, firstNumber}
+use Rattle.bits.specs.Strings.{Bits, bitsOf}
+use Rattle.families.specs.Words.{digitsFrom, digitsAfterOne, wordOf, firstNumber}
 use Rattle.families.specs.Published.{words1983}
-use Rattle.fractions.specs.Fractions.{dividedFrom, usual, Ratio}
-use Rattle.keys.specs.Keys.{keyOf, readFrom, read, valueOfKey, columnOf, cutTo}
+use Rattle.fractions.specs.Fractions.{_over_, dividedFrom, usual, formOf}
+use Rattle.keys.specs.Keys.{written, keyOf, readFrom, read, quotientsOf, valueOfKey, countOf, cutTo, columnOf}
 
-test : keyOf words1983 19 44 ≡ false ∷ false ∷ true ∷ true ∷ true ∷ false ∷ true ∷ false ∷ false ∷ true ∷ true ∷ []
-unfolding keyOf usual dividedFrom wordOf digitsFrom digitsAfterOne
-test = refl
+-- 19/44 (section III): the usual form, the even-ended form, the string before its zeros are dropped, and the count
+usual-example : usual 19 44 ≡ 0 ∷ 2 ∷ 3 ∷ 6 ∷ []
+unfolding usual dividedFrom
+usual-example = refl
 
-test2 : valueOfKey words1983 (keyOf words1983 19 44) ≡ record { num = 19; den = 44 }
-unfolding keyOf usual dividedFrom wordOf digitsFrom digitsAfterOne firstNumber readFrom read
-test2 = refl
+form-example : formOf 19 44 ≡ 0 ∷ 2 ∷ 3 ∷ 5 ∷ 1 ∷ []
+unfolding formOf usual dividedFrom
+form-example = refl
 
-big : keyOf words1983 4294967295 1 ≡ replicate 32 true ++ (false ∷ replicate 31 true)
-unfolding keyOf usual dividedFrom wordOf digitsFrom digitsAfterOne
-big = refl
+written-example : written words1983 (formOf 19 44) ≡ bitsOf "0011101001100"
+unfolding formOf usual dividedFrom wordOf digitsAfterOne digitsFrom bitsOf
+written-example = refl
 
-big2 : valueOfKey words1983 (keyOf words1983 1 4294967295) ≡ record { num = 1; den = 4294967295 }
-unfolding keyOf usual dividedFrom wordOf digitsFrom digitsAfterOne firstNumber readFrom read
-big2 = refl
+count-example : countOf (formOf 19 44) ≡ 4
+unfolding formOf usual dividedFrom
+count-example = refl
 
-col : columnOf (keyOf words1983 19 44) ≡ 0x3a ∷ 0x60 ∷ replicate 10 0
-unfolding keyOf usual dividedFrom wordOf digitsFrom digitsAfterOne
-col = refl
+-- 314/100, which isn't in lowest terms
+key-example : keyOf words1983 314 100 ≡ bitsOf "11010010011011"
+unfolding keyOf formOf usual dividedFrom wordOf digitsAfterOne digitsFrom bitsOf
+key-example = refl
+
+-- the string that section III reads: 3, 7, 15
+reading-example : quotientsOf words1983 (bitsOf "1101001001110111") ≡ 3 ∷ 7 ∷ 15 ∷ []
+unfolding read readFrom wordOf digitsAfterOne digitsFrom firstNumber bitsOf
+reading-example = refl
+
+-- the columns of 19/44 and 26/161
+column-example : map columnOf (keyOf words1983 19 44 ∷ keyOf words1983 26 161 ∷ [])
+    ≡ (0x3a ∷ 0x60 ∷ replicate 10 0) ∷ (0x17 ∷ 0x27 ∷ replicate 10 0) ∷ []
+unfolding keyOf formOf usual dividedFrom wordOf digitsAfterOne digitsFrom
+column-example = refl
+
+-- 26/161 cut to 5 is 1/8
+cut-example : cutTo 5 (keyOf words1983 26 161) ≡ bitsOf "0001"
+unfolding keyOf formOf usual dividedFrom wordOf digitsAfterOne digitsFrom bitsOf
+cut-example = refl
+
+cut-value-example : valueOfKey words1983 (bitsOf "0001") ≡ 1 over 8
+unfolding read readFrom wordOf digitsAfterOne digitsFrom firstNumber bitsOf
+cut-value-example = refl

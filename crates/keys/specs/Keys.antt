@@ -7,7 +7,7 @@ use Prim.Native.Nat.{ℕ, zero, suc, _+_, _*_}
 use lib.ListN.{length, take, drop}
 use Rattle.bits.specs.Strings.{Bits, turn, trimmed, bytesOf}
 use Rattle.families.specs.Families.{Family, ended}
-use Rattle.fractions.specs.Fractions.{Ratio, valueOf, usual, evenEnded}
+use Rattle.fractions.specs.Fractions.{Ratio, valueOf, formOf}
 
 -- the words of quotients, the first as it is and every second one turned: the rest is spelled and then turned as a whole
 abbrev pub spelled : Family → List ℕ → Bits
@@ -27,7 +27,7 @@ closed (b ∷ s) = b ∷ trimmed s
 
 -- the key of p/q
 unfoldable pub keyOf : Family → ℕ → ℕ → Bits
-keyOf F p q = closed (written F (evenEnded (usual p q)))
+keyOf F p q = closed (written F (formOf p q))
 
 -- how many quotients are written: a leading 0 isn't
 abbrev pub countOf : List ℕ → ℕ

@@ -10,10 +10,10 @@ use native.Mathlib.Omega.{arith}
 use Rattle.bits.specs.Strings.{Bits, _≺_}
 use Rattle.bits.specs.Order.{before-same, before-not-equal, before-asym}
 use Rattle.families.specs.Families.{Family}
-use Rattle.fractions.specs.Fractions.{Ratio, valueOf, usual, evenEnded, gcd}
+use Rattle.fractions.specs.Fractions.{Ratio, valueOf, formOf, gcd}
 use Rattle.fractions.specs.Lists.{Less, compared, Under, less-under}
-use Rattle.fractions.specs.Euclid.{Scaled, even-ended-scaled}
-use Rattle.fractions.specs.TwoStates.{even-ended-form}
+use Rattle.fractions.specs.Euclid.{Scaled, form-scaled}
+use Rattle.fractions.specs.TwoStates.{form-even-ended}
 use Rattle.keys.specs.Keys.{written, closed, keyOf, Canonical, valueOfKey}
 use Rattle.keys.specs.Spelling.{written-order}
 use Rattle.keys.specs.Back.{closed-same, value-key, value-denominator}
@@ -29,18 +29,18 @@ scaled-level f g p q r s v e d = rw (e .above, e .below, d .above, d .below) (om
 
 module _ (F : Family) where
   -- where the even-ended form of p/q stands before that of r/s, so do the keys and the ratios
-  less-both : (p q r s : ℕ) → 1 ≤ q → 1 ≤ s → Less (evenEnded (usual p q)) (evenEnded (usual r s))
+  less-both : (p q r s : ℕ) → 1 ≤ q → 1 ≤ s → Less (formOf p q) (formOf r s)
       → (keyOf F p q ≺ keyOf F r s) × (p * s < r * q)
   unfolding keyOf
   less-both p q r s hq hs h =
-      let l = evenEnded (usual p q) in
-      let m = evenEnded (usual r s) in
-      let el = even-ended-form p q hq in
-      let em = even-ended-form r s hs in (
+      let l = formOf p q in
+      let m = formOf r s in
+      let el = form-even-ended p q hq in
+      let em = form-even-ended r s hs in (
         before-same false (written F l) (closed (written F l)) (written F m) (closed (written F m))
             (λ i. sym (closed-same (written F l) i)) (λ i. sym (closed-same (written F m) i)) (written-order F l m el em h),
         scaled-under (gcd p q) (gcd r s) p q r s (valueOf l) (valueOf m)
-            (even-ended-scaled p q hq) (even-ended-scaled r s hs) (less-under false h el em),
+            (form-scaled p q hq) (form-scaled r s hs) (less-under false h el em),
       )
 
   -- one of three cases, each with what follows of keys and ratios
@@ -51,15 +51,15 @@ module _ (F : Family) where
 
   module _ (p q r s : ℕ) (hq : 1 ≤ q) (hs : 1 ≤ s) where
     pub standing : Standing p q r s
-    standing = by-lists (compared (evenEnded (usual p q)) (evenEnded (usual r s)))
+    standing = by-lists (compared (formOf p q) (formOf r s))
       where
-        by-lists : Less (evenEnded (usual p q)) (evenEnded (usual r s))
-            ⊎ ((evenEnded (usual p q) ≡ evenEnded (usual r s)) ⊎ Less (evenEnded (usual r s)) (evenEnded (usual p q)))
+        by-lists : Less (formOf p q) (formOf r s)
+            ⊎ ((formOf p q ≡ formOf r s) ⊎ Less (formOf r s) (formOf p q))
             → Standing p q r s
         by-lists (inl h) = let (k, c) = less-both p q r s hq hs h in before k c
         by-lists (inr (inl e)) = level (unfold keyOf in ap (λ (l : List ℕ). closed (written F l)) e)
-            (scaled-level (gcd p q) (gcd r s) p q r s (valueOf (evenEnded (usual p q)))
-            (even-ended-scaled p q hq) (rw e (even-ended-scaled r s hs)))
+            (scaled-level (gcd p q) (gcd r s) p q r s (valueOf (formOf p q))
+            (form-scaled p q hq) (rw e (form-scaled r s hs)))
         by-lists (inr (inr h)) = let (k, c) = less-both r s p q hs hq h in behind k c
 
     pub key-order : (keyOf F p q ≺ keyOf F r s) ↔ (p * s < r * q)
@@ -97,5 +97,5 @@ module _ (F : Family) where
   value-order k j c d =
       let u = valueOfKey F k in
       let v = valueOfKey F j in
-      rw (value-key F k c, value-key F j d) at
+      rw (value-key F k (u .num) (u .den) c refl, value-key F j (v .num) (v .den) d refl) at
       (key-order (u .num) (u .den) (v .num) (v .den) (value-denominator F k) (value-denominator F j))

@@ -13,10 +13,10 @@ use lib.ListN.{length, replicate, length-append, length-map}
 use Rattle.bits.specs.Strings.{Bits}
 use Rattle.bits.specs.Trim.{trimmed-length}
 use Rattle.families.specs.Families.{Family}
-use Rattle.fractions.specs.Fractions.{Ratio, onto, valueOf, usual, evenEnded, gcd, Quotients, EvenEnded}
+use Rattle.fractions.specs.Fractions.{Ratio, onto, valueOf, formOf, gcd, Quotients, EvenEnded}
 use Rattle.fractions.specs.Lists.{value-spread, spread-positive, spread-proper}
-use Rattle.fractions.specs.Euclid.{Scaled, even-ended-scaled}
-use Rattle.fractions.specs.TwoStates.{even-ended-form}
+use Rattle.fractions.specs.Euclid.{Scaled, form-scaled}
+use Rattle.fractions.specs.TwoStates.{form-even-ended}
 use Rattle.keys.specs.Keys.{spelled, written, closed, keyOf, countOf}
 
 -- what bounds the words of quotients of the value x
@@ -117,20 +117,20 @@ module _ (F : Family) where
       (spelled-fits false (suc a ∷ l) whole n d, few false (suc a ∷ l) whole n)
 
   module _ (p q : ℕ) (positive : 1 ≤ q) (small : p ≤ limit) (low : q ≤ limit) where
-    both : (length (written F (evenEnded (usual p q))) ≤ 96) × (countOf (evenEnded (usual p q)) ≤ 46)
+    both : (length (written F (formOf p q)) ≤ 96) × (countOf (formOf p q) ≤ 46)
     both =
-        let v = valueOf (evenEnded (usual p q)) in
-        let s = even-ended-scaled p q positive in
-        list-size (evenEnded (usual p q)) (even-ended-form p q positive)
+        let v = valueOf (formOf p q) in
+        let s = form-scaled p q positive in
+        list-size (formOf p q) (form-even-ended p q positive)
         (omega (arith, s .above, mul-le-mul-right (v .num) (s .positive)))
         (omega (arith, s .below, mul-le-mul-right (v .den) (s .positive)))
 
-    pub written-size : length (written F (evenEnded (usual p q))) ≤ 96
+    pub written-size : length (written F (formOf p q)) ≤ 96
     written-size = both .0
 
-    pub count-size : countOf (evenEnded (usual p q)) ≤ 46
+    pub count-size : countOf (formOf p q) ≤ 46
     count-size = both .1
 
     pub key-size : length (keyOf F p q) ≤ 96
     unfolding keyOf
-    key-size = le-trans (closed-length (written F (evenEnded (usual p q)))) written-size
+    key-size = le-trans (closed-length (written F (formOf p q))) written-size
