@@ -52,6 +52,11 @@ trimmed [] = []
 trimmed (false ∷ s) = behindZero (trimmed s)
 trimmed (true ∷ s) = true ∷ trimmed s
 
+-- the same, but that the first character stays
+abbrev pub closed : Bits → Bits
+closed [] = []
+closed (b ∷ s) = b ∷ trimmed s
+
 -- the first n bits of s, going on with z
 abbrev pub firstBits : Bool → ℕ → Bits → Bits
 firstBits z zero s = []

@@ -6,8 +6,8 @@ use mathlib.Core.List.{List, [], _∷_, _++_}
 use Prim.Native.Nat.{ℕ, zero, suc, _≤_, suc-le-suc}
 use native.Mathlib.Omega.{arith}
 use lib.ListN.{length}
-use Rattle.bits.specs.Strings.{Bits, Same, trimmed, behindZero}
-use Rattle.bits.specs.Order.{same-trans, same-append}
+use Rattle.bits.specs.Strings.{Bits, Same, _≺_, trimmed, behindZero, closed}
+use Rattle.bits.specs.Order.{same-append, before-same}
 
 same-behind-zero : (s : Bits) → Same false (behindZero s) (false ∷ s)
 same-behind-zero [] zero = refl
@@ -57,11 +57,23 @@ trimmed-ends (false ∷ s) = after-zero (trimmed-ends s)
     after-zero (inl e) = inl (ap behindZero e)
     after-zero (inr (t, e)) = inr (false ∷ t, ap behindZero e ∙ behind-zero-ends t)
 
+pub closed-same : (s : Bits) → Same false (closed s) s
+closed-same [] = λ i. refl
+closed-same (b ∷ s) = same-append false (b ∷ []) (trimmed s) s (same-trimmed s)
+
+-- zeros at the end have no part in the order
+pub closed-order : (s t : Bits) → s ≺ t → closed s ≺ closed t
+closed-order s t h = before-same false s (closed s) t (closed t) (λ i. sym (closed-same s i)) (λ i. sym (closed-same t i)) h
+
 behind-zero-length : (s : Bits) → length (behindZero s) ≤ suc (length s)
 behind-zero-length [] = omega arith
 behind-zero-length (b ∷ s) = omega arith
 
-pub trimmed-length : (s : Bits) → length (trimmed s) ≤ length s
+trimmed-length : (s : Bits) → length (trimmed s) ≤ length s
 trimmed-length [] = omega arith
 trimmed-length (true ∷ s) = suc-le-suc (trimmed-length s)
 trimmed-length (false ∷ s) = omega (arith, behind-zero-length (trimmed s), trimmed-length s)
+
+pub closed-length : (s : Bits) → length (closed s) ≤ length s
+closed-length [] = omega arith
+closed-length (b ∷ s) = omega (arith, trimmed-length s)

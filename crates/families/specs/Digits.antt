@@ -1,29 +1,20 @@
 -- The digits after the leading one: read on from 1 they give the number back, and each string is such digits.
 use mathlib.Core.Path.{_≡_, refl, sym, _∙_, ap, subst}
-use mathlib.Core.Bool.{Bool, true, false}
+use mathlib.Core.Bool.{Bool, true, false, cond}
 use mathlib.Core.Logic.{_⊎_, inl, inr}
 use mathlib.Core.List.{List, [], _∷_, _++_}
 use Prim.Native.Nat.{ℕ, zero, suc, _+_, _*_, _^_, _/_, _%_, _≤_, _<_}
 use native.Mathlib.Nat.{pow-suc, suc-inj}
 use native.Mathlib.Omega.{arith}
 use native.Mathlib.Decide.{decLt}
-use borrow.Author.Tests.{lt-ltb, le-ltb, eqb-true, eqb-false}
-use lib.Dec.{eqb}
+use borrow.Author.Tests.{ltb-true, ltb-false, eqb-true, eqb-false}
+use lib.Dec.{ltb, eqb}
 use lib.Pow.{pow-mono}
 use lib.ListN.{length}
 use Rattle.bits.specs.Strings.{Bits, digitOf, numberFrom}
 use Rattle.bits.specs.Numbers.{number-from, number-append, number-lt}
 use Rattle.families.specs.Families.{Below, here, there}
 use Rattle.families.specs.Words.{digitsFrom, digitsAfterOne}
-
-digits-small : (f i : ℕ) → i < 2 → digitsFrom f i ≡ []
-unfolding digitsFrom
-digits-small zero i h = refl
-digits-small (suc f) i h = rw (lt-ltb i 2 h, digitsFrom)
-
-digits-step : (f i : ℕ) → 2 ≤ i → digitsFrom (suc f) i ≡ digitsFrom f (i / 2) ++ (eqb (i % 2) 1 ∷ [])
-unfolding digitsFrom
-digits-step f i h = rw (le-ltb i 2 h, digitsFrom)
 
 last-digit : (i : ℕ) → 2 * (i / 2) + digitOf (eqb (i % 2) 1) ≡ i
 last-digit i = by-test (eqb (i % 2) 1) refl
@@ -33,14 +24,15 @@ last-digit i = by-test (eqb (i % 2) 1) refl
     by-test false e = let n : i % 2 ≡ 1 → ⊥ = eqb-false (i % 2) 1 e in omega arith
 
 number-digits-from : (f i : ℕ) → 1 ≤ i → i ≤ f → numberFrom 1 (digitsFrom f i) ≡ i
+unfolding digitsFrom
 number-digits-from zero i h l = omega arith
-number-digits-from (suc f) i h l = by-size (decLt i 2) (number-digits-from f (i / 2))
+number-digits-from (suc f) i h l = by-test (ltb i 2) refl (number-digits-from f (i / 2))
   where
-    by-size : Dec (i < 2) → (1 ≤ i / 2 → i / 2 ≤ f → numberFrom 1 (digitsFrom f (i / 2)) ≡ i / 2)
-        → numberFrom 1 (digitsFrom (suc f) i) ≡ i
-    by-size (yes s) again = rw (digits-small (suc f) i s) (omega arith)
-    by-size (no n) again =
-        rw (digits-step f i (omega arith), number-append, again (omega arith) (omega arith)) (last-digit i)
+    by-test : (b : Bool) → ltb i 2 ≡ b → (1 ≤ i / 2 → i / 2 ≤ f → numberFrom 1 (digitsFrom f (i / 2)) ≡ i / 2)
+        → numberFrom 1 (cond b [] (digitsFrom f (i / 2) ++ (eqb (i % 2) 1 ∷ []))) ≡ i
+    by-test true e again = omega (arith, ltb-true i 2 e)
+    by-test false e again =
+        let k : 2 ≤ i = ltb-false i 2 e in rw (number-append, again (omega arith) (omega arith)) (last-digit i)
 
 pub number-digits : (i : ℕ) → 1 ≤ i → numberFrom 1 (digitsAfterOne i) ≡ i
 unfolding digitsAfterOne

@@ -1,13 +1,8 @@
--- The 1983 words are a family, and Table 1 of 001 comes out by running them, both ways.
-use mathlib.Core.Path.{_≡_, refl}
-use mathlib.Core.Bool.{false}
-use mathlib.Core.List.{List, [], _∷_, map}
-use Prim.Native.Nat.{ℕ, zero, suc}
-use Prim.Native.String.{String}
-use Rattle.bits.specs.Strings.{bitsOf}
+-- The 1983 words are a family.
 use Rattle.families.specs.Families.{Family}
-use Rattle.families.specs.Words.{digitsFrom, digitsAfterOne, wordOf, firstNumber}
-use Rattle.families.specs.Rising.{word-rising, word-short}
+use Rattle.families.specs.Words.{wordOf, firstNumber}
+use Rattle.families.specs.Rising.{word-rising}
+use Rattle.families.specs.Measured.{word-short}
 use Rattle.families.specs.Complete.{word-complete}
 
 abbrev pub words1983 : Family
@@ -18,23 +13,3 @@ words1983 = record {
   complete = word-complete;
   short = word-short;
 }
-
--- the words that Table 1 prints for 1, 2, .., 20
-table1 : List String
-table1 =
-    "0" ∷ "100" ∷ "101" ∷ "11000" ∷ "11001" ∷ "11010" ∷ "11011"
-    ∷ "1110000" ∷ "1110001" ∷ "1110010" ∷ "1110011" ∷ "1110100" ∷ "1110101" ∷ "1110110" ∷ "1110111"
-    ∷ "111100000" ∷ "111100001" ∷ "111100010" ∷ "111100011" ∷ "111100100" ∷ []
-
--- i, i + 1, .., n of them
-counted : ℕ → ℕ → List ℕ
-counted zero i = []
-counted (suc n) i = i ∷ counted n (suc i)
-
-table-words : map wordOf (counted 20 1) ≡ map bitsOf table1
-unfolding table1 counted bitsOf wordOf digitsAfterOne digitsFrom
-table-words = refl
-
-table-numbers : map (firstNumber false) (map bitsOf table1) ≡ counted 20 1
-unfolding table1 counted bitsOf firstNumber
-table-numbers = refl

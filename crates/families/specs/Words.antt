@@ -1,6 +1,6 @@
 -- The words of 001, section II. A number of k binary digits has a word of 2k-1 bits. (Observation 1 prints the floor of
 -- twice the logarithm, plus 1; Table 1 has twice the floor, plus 1, and the table decides: the word of 3 is 101.)
-use mathlib.Core.Bool.{Bool, true, false}
+use mathlib.Core.Bool.{Bool, true, false, cond}
 use mathlib.Core.List.{List, [], _∷_, _++_}
 use Prim.Native.Nat.{ℕ, zero, suc, _/_, _%_}
 use lib.Dec.{ltb, eqb}
@@ -10,7 +10,7 @@ use Rattle.bits.specs.Strings.{Bits, firstBits, numberFrom}
 -- the binary digits of i after its leading one; no more than i of them are asked for
 unfoldable pub digitsFrom : ℕ → ℕ → Bits
 digitsFrom zero i = []
-digitsFrom (suc f) i = elim (ltb i 2) [ true ↦ [] | false ↦ digitsFrom f (i / 2) ++ (eqb (i % 2) 1 ∷ []) ]
+digitsFrom (suc f) i = let more = digitsFrom f (i / 2) ++ (eqb (i % 2) 1 ∷ []) in cond (ltb i 2) [] more
 
 unfoldable pub digitsAfterOne : ℕ → Bits
 digitsAfterOne i = digitsFrom i i

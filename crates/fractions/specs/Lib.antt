@@ -1,4 +1,5 @@
 pub mod Fractions
+pub mod AsPrinted
 pub mod Lists
 pub mod Euclid
 pub mod TwoStates

@@ -6,21 +6,16 @@ use mathlib.Core.Logic.{_⊎_, inl, inr}
 use mathlib.Core.List.{List, [], _∷_, _++_, nil≢cons}
 use Prim.Native.Nat.{ℕ, zero, suc, _+_, _*_, _≤_}
 use native.Mathlib.Omega.{arith}
-use Rattle.bits.specs.Strings.{Bits, turn, Same, trimmed}
-use Rattle.bits.specs.Order.{same-append}
-use Rattle.bits.specs.Trim.{same-trimmed, trimmed-same, trimmed-ended, trimmed-ends}
+use Rattle.bits.specs.Strings.{Bits, turn, Same, trimmed, closed}
+use Rattle.bits.specs.Trim.{trimmed-same, trimmed-ended, trimmed-ends, closed-same}
 use Rattle.families.specs.Families.{Family}
 use Rattle.fractions.specs.Fractions.{Ratio, _over_, valueOf, formOf, gcd, lowestTerms, EvenEnded}
 use Rattle.fractions.specs.Lists.{value-spread, spread-positive, even-ended-unique}
 use Rattle.fractions.specs.Euclid.{form-value, form-scaled, scaled-cross}
 use Rattle.fractions.specs.TwoStates.{form-even-ended}
-use Rattle.keys.specs.Keys.{spelled, written, closed, keyOf, Canonical, quotientsOf, valueOfKey}
+use Rattle.keys.specs.Keys.{spelled, written, keyOf, Canonical, quotientsOf, valueOfKey}
 use Rattle.keys.specs.Spelling.{written-unique}
 use Rattle.keys.specs.Reading.{quotients-even-ended, written-same}
-
-pub closed-same : (s : Bits) → Same false (closed s) s
-closed-same [] = λ i. refl
-closed-same (b ∷ s) = same-append false (b ∷ []) (trimmed s) s (same-trimmed s)
 
 -- a canonical key has nothing to drop
 closed-canonical : (k : Bits) → Canonical k → closed k ≡ k

@@ -12,7 +12,7 @@ use Rattle.bits.specs.Strings.{Bits, turn, Agree, numberFrom}
 use Rattle.bits.specs.Order.{turn-turn, agree-turn}
 use Rattle.families.specs.Words.{digitsAfterOne, wordOf}
 use Rattle.families.specs.Digits.{number-digits}
-use Rattle.families.specs.Rising.{digits-low}
+use Rattle.families.specs.Measured.{digits-low}
 use Rattle.families.specs.Meeting.{ones-meet, run-meet, digits-meet, Block, block}
 use Rattle.families.specs.Published.{words1983}
 use Rattle.fractions.specs.Fractions.{Ratio, onto, valueOf, Quotients}

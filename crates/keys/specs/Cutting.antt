@@ -10,10 +10,11 @@ use lib.ListN.{getD, length, take, length-take, List·getD-eq-default}
 use lib.Seq.{getD-take}
 use Rattle.bits.specs.Strings.{Bits, Same, Agree, Before, _≺_}
 use Rattle.bits.specs.Order.{same-append, before-first, before-cons, before-same}
+use Rattle.bits.specs.Trim.{closed-same}
 use Rattle.families.specs.Families.{Family}
 use Rattle.fractions.specs.Fractions.{Ratio}
-use Rattle.keys.specs.Keys.{closed, cutTo, Canonical, valueOfKey}
-use Rattle.keys.specs.Back.{closed-same, canonical-closed, canonical-same, not-canonical}
+use Rattle.keys.specs.Keys.{cutTo, Canonical, valueOfKey}
+use Rattle.keys.specs.Back.{canonical-closed, canonical-same, not-canonical}
 use Rattle.keys.specs.Order.{value-order}
 
 pub cut-agree : (n : ℕ) (s : Bits) → Agree false n (cutTo n s) s

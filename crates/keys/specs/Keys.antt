@@ -1,11 +1,11 @@
 -- What a key is, and what a key is the key of (001, section III), over any family of words.
 use mathlib.Core.Path.{_≡_}
-use mathlib.Core.Bool.{Bool, true, false, not}
+use mathlib.Core.Bool.{Bool, true, false, not, cond}
 use mathlib.Core.Logic.{_⊎_}
 use mathlib.Core.List.{List, [], _∷_, _++_}
 use Prim.Native.Nat.{ℕ, zero, suc, _+_, _*_}
 use lib.ListN.{length, take, drop}
-use Rattle.bits.specs.Strings.{Bits, turn, trimmed, bytesOf}
+use Rattle.bits.specs.Strings.{Bits, turn, closed, bytesOf}
 use Rattle.families.specs.Families.{Family, ended}
 use Rattle.fractions.specs.Fractions.{Ratio, valueOf, formOf}
 
@@ -20,12 +20,7 @@ written F [] = []
 written F (zero ∷ l) = false ∷ turn (spelled F l)
 written F (suc a ∷ l) = true ∷ spelled F (suc a ∷ l)
 
--- the zeros after the last 1 dropped; the first character stays, so that zero is the single 0
-abbrev pub closed : Bits → Bits
-closed [] = []
-closed (b ∷ s) = b ∷ trimmed s
-
--- the key of p/q
+-- the key of p/q; zero has the single character 0
 unfoldable pub keyOf : Family → ℕ → ℕ → Bits
 keyOf F p q = closed (written F (formOf p q))
 
@@ -45,10 +40,10 @@ Canonical k = (k ≡ false ∷ []) ⊎ ((s : Bits) × (k ≡ s ++ (true ∷ []))
 -- nothing, so twice the length and two more rounds are enough.
 unfoldable pub readFrom : Family → ℕ → Bool → Bits → List ℕ
 readFrom F zero z s = []
-readFrom F (suc f) z s = elim (ended z s) [
-  | true ↦ []
-  | false ↦ F .first z s ∷ readFrom F f (not z) (turn (drop (length (F .word (F .first z s))) s))
-]
+readFrom F (suc f) z s =
+    let a = F .first z s in
+    let more = a ∷ readFrom F f (not z) (turn (drop (length (F .word a)) s)) in
+    cond (ended z s) [] more
 
 unfoldable pub read : Family → Bool → Bits → List ℕ
 read F z s = readFrom F (2 * length s + 2) z s

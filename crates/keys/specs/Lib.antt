@@ -1,4 +1,5 @@
 pub mod Keys
+pub mod AsPrinted
 pub mod Spelling
 pub mod Reading
 pub mod Back
@@ -9,4 +10,3 @@ pub mod Widths
 pub mod Near
 pub mod Close
 pub mod Distance
-pub mod Examples

@@ -7,16 +7,17 @@ use mathlib.Core.List.{List}
 use Prim.Native.Nat.{ℕ, _*_, _≤_, _<_}
 use native.Mathlib.Nat.{mul-lt-mul-of-pos-left, mul-pos}
 use native.Mathlib.Omega.{arith}
-use Rattle.bits.specs.Strings.{Bits, _≺_}
-use Rattle.bits.specs.Order.{before-same, before-not-equal, before-asym}
+use Rattle.bits.specs.Strings.{Bits, _≺_, closed}
+use Rattle.bits.specs.Order.{before-not-equal, before-asym}
+use Rattle.bits.specs.Trim.{closed-order}
 use Rattle.families.specs.Families.{Family}
 use Rattle.fractions.specs.Fractions.{Ratio, valueOf, formOf, gcd}
 use Rattle.fractions.specs.Lists.{Less, compared, Under, less-under}
 use Rattle.fractions.specs.Euclid.{Scaled, form-scaled}
 use Rattle.fractions.specs.TwoStates.{form-even-ended}
-use Rattle.keys.specs.Keys.{written, closed, keyOf, Canonical, valueOfKey}
+use Rattle.keys.specs.Keys.{written, keyOf, Canonical, valueOfKey}
 use Rattle.keys.specs.Spelling.{written-order}
-use Rattle.keys.specs.Back.{closed-same, value-key, value-denominator}
+use Rattle.keys.specs.Back.{value-key, value-denominator}
 
 -- ratios stand as their values do
 scaled-under : (f g p q r s : ℕ) (u v : Ratio) → Scaled f p q u → Scaled g r s v → Under u v → p * s < r * q
@@ -37,8 +38,7 @@ module _ (F : Family) where
       let m = formOf r s in
       let el = form-even-ended p q hq in
       let em = form-even-ended r s hs in (
-        before-same false (written F l) (closed (written F l)) (written F m) (closed (written F m))
-            (λ i. sym (closed-same (written F l) i)) (λ i. sym (closed-same (written F m) i)) (written-order F l m el em h),
+        closed-order (written F l) (written F m) (written-order F l m el em h),
         scaled-under (gcd p q) (gcd r s) p q r s (valueOf l) (valueOf m)
             (form-scaled p q hq) (form-scaled r s hs) (less-under false h el em),
       )

@@ -25,7 +25,7 @@ all-ones (false ∷ s) e i = absurd (false≢true e)
 
 -- the rounds that may be left
 abbrev left : Bool → Bits → ℕ
-left z s = 2 * length s + cond z 1 2
+left z s = 2 * length s + cond z 0 1 + 1
 
 left-falls : (f : ℕ) (z : Bool) (s w : Bits) → ended z s ≡ false → 1 ≤ length w → left z s ≤ suc f
     → left (not z) (turn (drop (length w) s)) ≤ f
@@ -51,18 +51,9 @@ module _ (F : Family) where
         (λ j. sym (same-drop z s (F .word a) rest e j) ∙ same-turned z (drop (length (F .word a)) s) (spelled F l) (r .same) j) i;
   }
 
-  read-end : (f : ℕ) (z : Bool) (s : Bits) → ended z s ≡ true → readFrom F (suc f) z s ≡ []
-  unfolding readFrom
-  read-end f z s e = rw (e, readFrom)
-
-  read-next : (f : ℕ) (z : Bool) (s : Bits) → ended z s ≡ false
-      → readFrom F (suc f) z s ≡ F .first z s ∷ readFrom F f (not z) (turn (drop (length (F .word (F .first z s))) s))
-  unfolding readFrom
-  read-next f z s e = rw (e, readFrom)
-
   read-from-spells : (f : ℕ) (z : Bool) (s : Bits) → left z s ≤ f → Spells F z s (readFrom F f z s)
-  read-from-spells zero true s h = absurd (omega arith)
-  read-from-spells zero false s h = absurd (omega arith)
+  unfolding readFrom
+  read-from-spells zero z s h = absurd (omega arith)
   read-from-spells (suc f) z s h =
       by-test (ended z s) refl (read-from-spells f (not z) (turn (drop (length (F .word (F .first z s))) s)))
     where
@@ -73,13 +64,12 @@ module _ (F : Family) where
       rest = turn (drop (length (F .word a)) s)
 
       by-test : (b : Bool) → ended z s ≡ b → (left (not z) rest ≤ f → Spells F (not z) rest (readFrom F f (not z) rest))
-          → Spells F z s (readFrom F (suc f) z s)
-      by-test true e again = rw (read-end f z s e) (spells-end z s e)
+          → Spells F z s (cond b [] (a ∷ readFrom F f (not z) rest))
+      by-test true e again = spells-end z s e
       by-test false e again =
           let (k, (r, q)) = F .complete z s e in
-          rw (read-next f z s e)
-          (spells-next z s a r (readFrom F f (not z) rest) k q
-          (again (left-falls f z s (F .word a) e (below-length (F .rising a (suc a) k (omega arith))) h)))
+          spells-next z s a r (readFrom F f (not z) rest) k q
+          (again (left-falls f z s (F .word a) e (below-length (F .rising a (suc a) k (omega arith))) h))
 
   pub read-spells : (z : Bool) (s : Bits) → Spells F z s (read F z s)
   unfolding read

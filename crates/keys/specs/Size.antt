@@ -11,13 +11,13 @@ use native.Mathlib.Decide.{decLt}
 use lib.Pow.{pow-add, pow-mono}
 use lib.ListN.{length, replicate, length-append, length-map}
 use Rattle.bits.specs.Strings.{Bits}
-use Rattle.bits.specs.Trim.{trimmed-length}
+use Rattle.bits.specs.Trim.{closed-length}
 use Rattle.families.specs.Families.{Family}
 use Rattle.fractions.specs.Fractions.{Ratio, onto, valueOf, formOf, gcd, Quotients, EvenEnded}
 use Rattle.fractions.specs.Lists.{value-spread, spread-positive, spread-proper}
 use Rattle.fractions.specs.Euclid.{Scaled, form-scaled}
 use Rattle.fractions.specs.TwoStates.{form-even-ended}
-use Rattle.keys.specs.Keys.{spelled, written, closed, keyOf, countOf}
+use Rattle.keys.specs.Keys.{spelled, written, keyOf, countOf}
 
 -- what bounds the words of quotients of the value x
 abbrev room : Ratio → ℕ
@@ -57,10 +57,6 @@ below-power n m h = by-size (decLt n m)
     by-size : Dec (n < m) → n < m
     by-size (yes l) = l
     by-size (no l) = let k : m ≤ n = omega arith in absurd (omega (arith, pow-mono k))
-
-closed-length : (s : Bits) → length (closed s) ≤ length s
-closed-length [] = omega arith
-closed-length (b ∷ s) = omega (arith, trimmed-length s)
 
 module _ (F : Family) where
   spelled-length : (a : ℕ) (l : List ℕ) → 2 ^ length (spelled F (a ∷ l)) ≡ 2 ^ length (F .word a) * 2 ^ length (spelled F l)

@@ -9,15 +9,7 @@ use Rattle.families.specs.Published.{words1983}
 use Rattle.fractions.specs.Fractions.{_over_, dividedFrom, usual, formOf}
 use Rattle.keys.specs.Keys.{written, keyOf, readFrom, read, quotientsOf, valueOfKey, countOf, cutTo, columnOf}
 
--- 19/44 (section III): the usual form, the even-ended form, the string before its zeros are dropped, and the count
-usual-example : usual 19 44 ≡ 0 ∷ 2 ∷ 3 ∷ 6 ∷ []
-unfolding usual dividedFrom
-usual-example = refl
-
-form-example : formOf 19 44 ≡ 0 ∷ 2 ∷ 3 ∷ 5 ∷ 1 ∷ []
-unfolding formOf usual dividedFrom
-form-example = refl
-
+-- 19/44 (section III): the string before its zeros are dropped, and the count of its quotients
 written-example : written words1983 (formOf 19 44) ≡ bitsOf "0011101001100"
 unfolding formOf usual dividedFrom wordOf digitsAfterOne digitsFrom bitsOf
 written-example = refl
