@@ -1,4 +1,5 @@
 pub mod Strings
+pub mod Binary
 pub mod AsPrinted
 pub mod Order
 pub mod Trim

@@ -1,18 +1,24 @@
 -- A string as a binary number: reading on, its size, and what turning does to it.
-use mathlib.Core.Path.{_≡_, refl, sym, _∙_, ap}
-use mathlib.Core.Bool.{Bool, true, false, not}
-use mathlib.Core.List.{List, [], _∷_, _++_}
+use mathlib.Core.Path.{_≡_, refl, ap}
+use mathlib.Core.Bool.{true, false}
+use mathlib.Core.List.{[], _∷_, _++_}
 use Prim.Native.Nat.{ℕ, zero, suc, _+_, _*_, _^_, _<_}
 use native.Mathlib.Nat.{pow-suc}
 use native.Mathlib.Omega.{arith}
 use lib.ListN.{length, length-map, replicate, length-replicate}
-use Rattle.bits.specs.Strings.{Bits, turn, digitOf, numberFrom, numberOf}
+use Rattle.bits.specs.Strings.{Bits, turn}
+use Rattle.bits.specs.Binary.{digitOf, numberFrom, numberOf}
 
 -- to read s on from v is to shift v by the length of s and to add s
 pub number-from : (v : ℕ) (s : Bits) → numberFrom v s ≡ v * 2 ^ length s + numberOf s
 number-from v [] = omega arith
 number-from v (b ∷ s) =
-    omega (arith, number-from (2 * v + digitOf b) s, number-from (2 * 0 + digitOf b) s, ap (λ (x : ℕ). v * x) (pow-suc 2 (length s)))
+    omega (
+      arith,
+      number-from (2 * v + digitOf b) s,
+      number-from (2 * 0 + digitOf b) s,
+      ap (λ (x : ℕ). v * x) (pow-suc 2 (length s)),
+    )
 
 pub number-append : (v : ℕ) (s t : Bits) → numberFrom v (s ++ t) ≡ numberFrom (numberFrom v s) t
 number-append v [] t = refl

@@ -1,9 +1,8 @@
 -- Laws of sameness and of the order: both go through a common front, and turning keeps the one and reverses the other.
 use mathlib.Core.Path.{_≡_, refl, sym, _∙_, ap}
-use mathlib.Core.Bool.{Bool, true, false, not, true≢false, false≢true}
-use mathlib.Core.Logic.{_⊎_, inl, inr}
-use mathlib.Core.List.{List, [], _∷_, _++_, map}
-use Prim.Native.Nat.{ℕ, zero, suc, _+_, _<_, _≤_, suc-le-suc}
+use mathlib.Core.Bool.{Bool, true, false, not, false≢true}
+use mathlib.Core.List.{[], _∷_, _++_}
+use Prim.Native.Nat.{ℕ, zero, suc, _+_, _<_}
 use native.Mathlib.Nat.{le-of-suc-le-suc}
 use native.Mathlib.Omega.{arith}
 use native.Mathlib.Decide.{decLt}
@@ -18,16 +17,6 @@ not-not false = refl
 pub turn-turn : (s : Bits) → turn (turn s) ≡ s
 turn-turn [] = refl
 turn-turn (b ∷ s) = λ i. not-not b i ∷ turn-turn s i
-
-pub turn-append : (s t : Bits) → turn (s ++ t) ≡ turn s ++ turn t
-turn-append [] t = refl
-turn-append (b ∷ s) t = ap {B = Bits} (λ r. not b ∷ r) (turn-append s t)
-
-pub same-trans : (z : Bool) (s t u : Bits) → Same z s t → Same z t u → Same z s u
-same-trans z s t u e f i = e i ∙ f i
-
-pub same-sym : (z : Bool) (s t : Bits) → Same z s t → Same z t s
-same-sym z s t e i = sym (e i)
 
 pub agree-turn : (z : Bool) (n : ℕ) (s t : Bits) → Agree z n s t → Agree (not z) n (turn s) (turn t)
 agree-turn z n s t e i h = List·getD-map not s i z ∙ ap not (e i h) ∙ sym (List·getD-map not t i z)

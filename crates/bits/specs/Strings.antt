@@ -1,13 +1,13 @@
 -- Strings of bits, as 001 uses them: a string stands for the infinite one that goes on with zeros (section II). Where a
--- string is turned its extension is turned too, so the bit that it goes on with, its fill, is an argument.
+-- string is turned, what it goes on with is turned too; so that bit, z, is an argument.
 use mathlib.Core.Path.{_≡_}
-use mathlib.Core.Bool.{Bool, true, false, not, cond, _&&_}
+use mathlib.Core.Bool.{Bool, true, false, not, _&&_}
 use mathlib.Core.List.{List, [], _∷_, map}
 use Prim.Native.Char.{code}
 use Prim.Native.String.{String, [] as []ᵗ, _∷_ as _∷ᵗ_}
-use Prim.Native.Nat.{ℕ, zero, suc, _+_, _*_, _<_}
+use Prim.Native.Nat.{ℕ, _<_}
 use lib.Dec.{eqb}
-use lib.ListN.{getD, drop}
+use lib.ListN.{getD}
 
 abbrev pub Bits : Type 0
 Bits = List Bool
@@ -29,7 +29,12 @@ Same z s t = (i : ℕ) → getD s i z ≡ getD t i z
 abbrev pub Agree : Bool → ℕ → Bits → Bits → Type 0
 Agree z n s t = (i : ℕ) → i < n → getD s i z ≡ getD t i z
 
--- s, going on with z, stands before t, going on with z: they agree below some place, and there s has 0 and t has 1
+-- every bit is 1
+abbrev pub allOnes : Bits → Bool
+allOnes [] = true
+allOnes (b ∷ s) = b && allOnes s
+
+-- s stands before t, both going on with z: they agree below some place, and there s has 0 and t has 1
 pub record Before (z : Bool) (s t : Bits) : Type 0 where
   pub place : ℕ
   pub agree : Agree z place s t
@@ -56,32 +61,3 @@ trimmed (true ∷ s) = true ∷ trimmed s
 abbrev pub closed : Bits → Bits
 closed [] = []
 closed (b ∷ s) = b ∷ trimmed s
-
--- the first n bits of s, going on with z
-abbrev pub firstBits : Bool → ℕ → Bits → Bits
-firstBits z zero s = []
-firstBits z (suc n) [] = z ∷ firstBits z n []
-firstBits z (suc n) (b ∷ s) = b ∷ firstBits z n s
-
--- every bit is 1
-abbrev pub allOnes : Bits → Bool
-allOnes [] = true
-allOnes (b ∷ s) = b && allOnes s
-
--- a bit as a number
-abbrev pub digitOf : Bool → ℕ
-digitOf b = cond b 1 0
-
--- s as binary digits, read on from v: each digit doubles what is read and adds itself
-abbrev pub numberFrom : ℕ → Bits → ℕ
-numberFrom v [] = v
-numberFrom v (b ∷ s) = numberFrom (2 * v + digitOf b) s
-
--- s as a binary number
-abbrev pub numberOf : Bits → ℕ
-numberOf s = numberFrom 0 s
-
--- the first 8 * n bits of s, extended by zeros, as n bytes, top bit first
-abbrev pub bytesOf : ℕ → Bits → List ℕ
-bytesOf zero s = []
-bytesOf (suc n) s = numberOf (firstBits false 8 s) ∷ bytesOf n (drop 8 s)

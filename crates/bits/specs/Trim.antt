@@ -1,9 +1,9 @@
 -- Dropping the zeros after the last 1: the infinite string stays, and strings that are the same become equal.
 use mathlib.Core.Path.{_≡_, refl, sym, _∙_, ap}
-use mathlib.Core.Bool.{Bool, true, false, true≢false, false≢true}
+use mathlib.Core.Bool.{true, false, true≢false, false≢true}
 use mathlib.Core.Logic.{_⊎_, inl, inr}
-use mathlib.Core.List.{List, [], _∷_, _++_}
-use Prim.Native.Nat.{ℕ, zero, suc, _≤_, suc-le-suc}
+use mathlib.Core.List.{[], _∷_, _++_}
+use Prim.Native.Nat.{zero, suc, _≤_, suc-le-suc}
 use native.Mathlib.Omega.{arith}
 use lib.ListN.{length}
 use Rattle.bits.specs.Strings.{Bits, Same, _≺_, trimmed, behindZero, closed}
@@ -35,27 +35,27 @@ behind-zero-ends : (s : Bits) → behindZero (s ++ (true ∷ [])) ≡ false ∷ 
 behind-zero-ends [] = refl
 behind-zero-ends (b ∷ s) = refl
 
--- a string that ends in 1 has no zeros to drop
+-- empty, or ending in 1: there is nothing to drop
+abbrev pub Tidy : Bits → Type 0
+Tidy s = (s ≡ []) ⊎ ((t : Bits) × (s ≡ t ++ (true ∷ [])))
+
+pub tidy-trimmed : (s : Bits) → Tidy (trimmed s)
+tidy-trimmed [] = inl refl
+tidy-trimmed (true ∷ s) = after-one (tidy-trimmed s)
+  where
+    after-one : Tidy (trimmed s) → Tidy (true ∷ trimmed s)
+    after-one (inl e) = inr ([], ap {B = Bits} (λ r. true ∷ r) e)
+    after-one (inr (t, e)) = inr (true ∷ t, ap {B = Bits} (λ r. true ∷ r) e)
+tidy-trimmed (false ∷ s) = after-zero (tidy-trimmed s)
+  where
+    after-zero : Tidy (trimmed s) → Tidy (behindZero (trimmed s))
+    after-zero (inl e) = inl (ap behindZero e)
+    after-zero (inr (t, e)) = inr (false ∷ t, ap behindZero e ∙ behind-zero-ends t)
+
 pub trimmed-ended : (s : Bits) → trimmed (s ++ (true ∷ [])) ≡ s ++ (true ∷ [])
 trimmed-ended [] = refl
 trimmed-ended (true ∷ s) = ap {B = Bits} (λ r. true ∷ r) (trimmed-ended s)
 trimmed-ended (false ∷ s) = ap behindZero (trimmed-ended s) ∙ behind-zero-ends s
-
--- a string whose zeros were dropped is empty or ends in 1
-pub trimmed-ends : (s : Bits) → (trimmed s ≡ []) ⊎ ((t : Bits) × (trimmed s ≡ t ++ (true ∷ [])))
-trimmed-ends [] = inl refl
-trimmed-ends (true ∷ s) = after-one (trimmed-ends s)
-  where
-    after-one : (trimmed s ≡ []) ⊎ ((t : Bits) × (trimmed s ≡ t ++ (true ∷ [])))
-        → (true ∷ trimmed s ≡ []) ⊎ ((t : Bits) × (true ∷ trimmed s ≡ t ++ (true ∷ [])))
-    after-one (inl e) = inr ([], ap {B = Bits} (λ r. true ∷ r) e)
-    after-one (inr (t, e)) = inr (true ∷ t, ap {B = Bits} (λ r. true ∷ r) e)
-trimmed-ends (false ∷ s) = after-zero (trimmed-ends s)
-  where
-    after-zero : (trimmed s ≡ []) ⊎ ((t : Bits) × (trimmed s ≡ t ++ (true ∷ [])))
-        → (behindZero (trimmed s) ≡ []) ⊎ ((t : Bits) × (behindZero (trimmed s) ≡ t ++ (true ∷ [])))
-    after-zero (inl e) = inl (ap behindZero e)
-    after-zero (inr (t, e)) = inr (false ∷ t, ap behindZero e ∙ behind-zero-ends t)
 
 pub closed-same : (s : Bits) → Same false (closed s) s
 closed-same [] = λ i. refl
@@ -63,7 +63,8 @@ closed-same (b ∷ s) = same-append false (b ∷ []) (trimmed s) s (same-trimmed
 
 -- zeros at the end have no part in the order
 pub closed-order : (s t : Bits) → s ≺ t → closed s ≺ closed t
-closed-order s t h = before-same false s (closed s) t (closed t) (λ i. sym (closed-same s i)) (λ i. sym (closed-same t i)) h
+closed-order s t =
+    before-same false s (closed s) t (closed t) (λ i. sym (closed-same s i)) (λ i. sym (closed-same t i))
 
 behind-zero-length : (s : Bits) → length (behindZero s) ≤ suc (length s)
 behind-zero-length [] = omega arith

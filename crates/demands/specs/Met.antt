@@ -1,6 +1,4 @@
 -- The demands are met. Each field names its theorem.
-use mathlib.Core.Path.{_≡_, sym, _∙_, ap}
-use mathlib.Core.Logic.{_⊎_, inl, inr}
 use Rattle.families.specs.Families.{Family}
 use Rattle.keys.specs.Back.{key-value, key-canonical, value-key, key-of-one}
 use Rattle.keys.specs.Order.{key-multiple, key-order, key-equal}

@@ -1,7 +1,6 @@
 -- The ratios that the scope marks to be proved, each with its key: one table, and one claim about every row of it.
 use mathlib.Core.Path.{_≡_, refl, sym, _∙_, ap}
 use mathlib.Core.List.{List, [], _∷_, map, List·Memᴰ, List·Memᴰ·head, List·Memᴰ·tail, head-eq-of-cons-eq, tail-eq-of-cons-eq}
-use Prim.Native.Nat.{ℕ}
 use Prim.Native.String.{String}
 use Rattle.bits.specs.Strings.{Bits, bitsOf}
 use Rattle.families.specs.Words.{digitsFrom, digitsAfterOne, wordOf, firstNumber}

@@ -1,23 +1,29 @@
 -- The 1983 words are complete: what begins an infinite string with a 0 in it is a run, its zero, and digits.
-use mathlib.Core.Path.{_≡_, refl, sym, _∙_, ap}
+use mathlib.Core.Path.{_≡_, refl, _∙_, ap}
 use mathlib.Core.Bool.{Bool, true, false, true≢false}
-use mathlib.Core.List.{List, [], _∷_, _++_, append-assoc}
-use Prim.Native.Nat.{ℕ, zero, suc, _≤_, _^_}
+use mathlib.Core.List.{[], _∷_, _++_, append-assoc}
+use Prim.Native.Nat.{ℕ, zero, suc, _≤_}
 use native.Mathlib.Omega.{arith}
 use lib.Pow.{pow-pos}
 use lib.ListN.{length, getD, replicate, drop}
 use lib.Seq.{drop-nil}
-use Rattle.bits.specs.Strings.{Bits, Same, firstBits, numberFrom}
+use Rattle.bits.specs.Strings.{Bits, Same}
+use Rattle.bits.specs.Binary.{firstBits, numberFrom}
 use Rattle.bits.specs.Order.{same-append}
 use Rattle.families.specs.Families.{ended}
-use Rattle.families.specs.Words.{runOf, withRun, wordOf, digitsAfterOne, firstNumber}
+use Rattle.families.specs.Words.{runOf, wordOf, firstNumber}
 use Rattle.families.specs.Digits.{number-low, digits-number}
 
-same-run : (z : Bool) (s : Bits) → ended z s ≡ false → Same z s (replicate (runOf s) true ++ (false ∷ drop (suc (runOf s)) s))
+-- what follows the run and its zero
+abbrev afterRun : Bits → Bits
+afterRun s = drop (suc (runOf s)) s
+
+same-run : (z : Bool) (s : Bits) → ended z s ≡ false → Same z s (replicate (runOf s) true ++ (false ∷ afterRun s))
 same-run true [] h i = absurd (true≢false h)
 same-run false [] h zero = refl
 same-run false [] h (suc i) = refl
-same-run z (true ∷ s) h i = same-append z (true ∷ []) s (replicate (runOf s) true ++ (false ∷ drop (suc (runOf s)) s)) (same-run z s h) i
+same-run z (true ∷ s) h i =
+    same-append z (true ∷ []) s (replicate (runOf s) true ++ (false ∷ afterRun s)) (same-run z s h) i
 same-run z (false ∷ s) h i = refl
 
 same-first : (z : Bool) (n : ℕ) (s : Bits) → Same z s (firstBits z n s ++ drop n s)
@@ -34,21 +40,21 @@ length-first z (suc n) (b ∷ s) = ap suc (length-first z n s)
 pub word-complete : (z : Bool) (s : Bits) → ended z s ≡ false
     → (1 ≤ firstNumber z s) × ((rest : Bits) × Same z s (wordOf (firstNumber z s) ++ rest))
 unfolding wordOf firstNumber
-word-complete z s h = (omega (arith, number-low digits, pow-pos (length digits)), (drop r after, spelled))
+word-complete z s h = (omega (arith, number-low digits, pow-pos (length digits)), (drop r after, begins))
   where
     r : ℕ
     r = runOf s
 
     after : Bits
-    after = drop (suc r) s
+    after = afterRun s
 
     digits : Bits
     digits = firstBits z r after
 
-    read : Same z (false ∷ after) (false ∷ (digits ++ drop r after))
-    read = same-append z (false ∷ []) after (digits ++ drop r after) (same-first z r after)
-
-    spelled : Same z s (wordOf (numberFrom 1 digits) ++ drop r after)
+    spelled : Same z (replicate r true ++ (false ∷ after)) (replicate r true ++ (false ∷ (digits ++ drop r after)))
     spelled =
-        rw (digits-number, length-first, append-assoc)
-        (λ i. same-run z s h i ∙ same-append z (replicate r true) (false ∷ after) (false ∷ (digits ++ drop r after)) read i)
+        same-append z (replicate r true) (false ∷ after) (false ∷ (digits ++ drop r after))
+        (same-append z (false ∷ []) after (digits ++ drop r after) (same-first z r after))
+
+    begins : Same z s (wordOf (numberFrom 1 digits) ++ drop r after)
+    begins = rw (digits-number, length-first, append-assoc) (λ i. same-run z s h i ∙ spelled i)

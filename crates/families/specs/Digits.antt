@@ -1,8 +1,8 @@
 -- The digits after the leading one: read on from 1 they give the number back, and each string is such digits.
-use mathlib.Core.Path.{_≡_, refl, sym, _∙_, ap, subst}
+use mathlib.Core.Path.{_≡_, refl, sym, ap}
 use mathlib.Core.Bool.{Bool, true, false, cond}
 use mathlib.Core.Logic.{_⊎_, inl, inr}
-use mathlib.Core.List.{List, [], _∷_, _++_}
+use mathlib.Core.List.{[], _∷_, _++_}
 use Prim.Native.Nat.{ℕ, zero, suc, _+_, _*_, _^_, _/_, _%_, _≤_, _<_}
 use native.Mathlib.Nat.{pow-suc, suc-inj}
 use native.Mathlib.Omega.{arith}
@@ -11,7 +11,8 @@ use borrow.Author.Tests.{ltb-true, ltb-false, eqb-true, eqb-false}
 use lib.Dec.{ltb, eqb}
 use lib.Pow.{pow-mono}
 use lib.ListN.{length}
-use Rattle.bits.specs.Strings.{Bits, digitOf, numberFrom}
+use Rattle.bits.specs.Strings.{Bits}
+use Rattle.bits.specs.Binary.{digitOf, numberFrom}
 use Rattle.bits.specs.Numbers.{number-from, number-append, number-lt}
 use Rattle.families.specs.Families.{Below, here, there}
 use Rattle.families.specs.Words.{digitsFrom, digitsAfterOne}
@@ -58,20 +59,21 @@ below-number v (here {s = s} {t = t}) e =
     )
 below-number v (there b h) e = below-number (2 * v + digitOf b) h (suc-inj e)
 
-compared : (s t : Bits) → length s ≡ length t → Below s t ⊎ ((s ≡ t) ⊎ Below t s)
+abbrev Compared : Bits → Bits → Type 0
+Compared s t = Below s t ⊎ ((s ≡ t) ⊎ Below t s)
+
+compared : (s t : Bits) → length s ≡ length t → Compared s t
 compared [] [] e = inr (inl refl)
 compared [] (c ∷ t) e = absurd (omega arith)
 compared (b ∷ s) [] e = absurd (omega arith)
 compared (b ∷ s) (c ∷ t) e = by-bits b c (compared s t (suc-inj e))
   where
-    with-same : (b : Bool) → Below s t ⊎ ((s ≡ t) ⊎ Below t s)
-        → Below (b ∷ s) (b ∷ t) ⊎ ((b ∷ s ≡ b ∷ t) ⊎ Below (b ∷ t) (b ∷ s))
+    with-same : (b : Bool) → Compared s t → Compared (b ∷ s) (b ∷ t)
     with-same b (inl h) = inl (there b h)
     with-same b (inr (inl h)) = inr (inl (ap {B = Bits} (λ r. b ∷ r) h))
     with-same b (inr (inr h)) = inr (inr (there b h))
 
-    by-bits : (b c : Bool) → Below s t ⊎ ((s ≡ t) ⊎ Below t s)
-        → Below (b ∷ s) (c ∷ t) ⊎ ((b ∷ s ≡ c ∷ t) ⊎ Below (c ∷ t) (b ∷ s))
+    by-bits : (b c : Bool) → Compared s t → Compared (b ∷ s) (c ∷ t)
     by-bits true true h = with-same true h
     by-bits true false h = inr (inr here)
     by-bits false true h = inl here
@@ -80,7 +82,7 @@ compared (b ∷ s) (c ∷ t) e = by-bits b c (compared s t (suc-inj e))
 pub number-below : (s t : Bits) → length s ≡ length t → numberFrom 1 s < numberFrom 1 t → Below s t
 number-below s t e h = by-order (compared s t e)
   where
-    by-order : Below s t ⊎ ((s ≡ t) ⊎ Below t s) → Below s t
+    by-order : Compared s t → Below s t
     by-order (inl b) = b
     by-order (inr (inl q)) = absurd (omega (arith, ap (numberFrom 1) q))
     by-order (inr (inr b)) = absurd (omega (arith, below-number 1 b (sym e)))
@@ -92,13 +94,13 @@ number-length s t e = by-size (decLt (length t) (length s))
     by-size (yes l) = absurd (omega (arith, number-low s, number-high t, pow-mono l))
     by-size (no n) = omega arith
 
-pub number-injective : (s t : Bits) → numberFrom 1 s ≡ numberFrom 1 t → s ≡ t
+number-injective : (s t : Bits) → numberFrom 1 s ≡ numberFrom 1 t → s ≡ t
 number-injective s t e = by-order (compared s t size)
   where
     size : length s ≡ length t
     size = omega (arith, number-length s t e, number-length t s (sym e))
 
-    by-order : Below s t ⊎ ((s ≡ t) ⊎ Below t s) → s ≡ t
+    by-order : Compared s t → s ≡ t
     by-order (inl b) = absurd (omega (arith, below-number 1 b size))
     by-order (inr (inl q)) = q
     by-order (inr (inr b)) = absurd (omega (arith, below-number 1 b (sym size)))

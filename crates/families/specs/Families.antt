@@ -1,7 +1,7 @@
 -- What a family of words for the whole numbers from 1 on is. Order and reading back are proved once, over any family.
 use mathlib.Core.Path.{_≡_}
 use mathlib.Core.Bool.{Bool, true, false, _&&_}
-use mathlib.Core.List.{List, [], _∷_, _++_}
+use mathlib.Core.List.{_∷_, _++_}
 use Prim.Native.Nat.{ℕ, _*_, _^_, _≤_, _<_}
 use lib.ListN.{length}
 use Rattle.bits.specs.Strings.{Bits, Same, allOnes}

@@ -1,5 +1,5 @@
 -- The length of a 1983 word, and the word as a binary number, which the code makes it by.
-use mathlib.Core.Path.{_≡_, refl, sym, _∙_, ap}
+use mathlib.Core.Path.{_≡_, _∙_, ap}
 use mathlib.Core.Bool.{true}
 use Prim.Native.Nat.{ℕ, zero, suc, _+_, _*_, _-_, _^_, _≤_, _<_}
 use native.Mathlib.Nat.{pow-suc, mul-le-mul}
@@ -8,7 +8,8 @@ use native.Mathlib.Omega.{arith}
 use native.Mathlib.Decide.{decLt}
 use lib.Pow.{pow-add, pow-mono, pow-pos}
 use lib.ListN.{length, length-append, length-replicate, replicate}
-use Rattle.bits.specs.Strings.{Bits, turn, numberFrom, numberOf}
+use Rattle.bits.specs.Strings.{Bits, turn}
+use Rattle.bits.specs.Binary.{numberFrom, numberOf}
 use Rattle.bits.specs.Numbers.{number-from, number-append, number-ones, number-turn}
 use Rattle.families.specs.Words.{digitsAfterOne, withRun, wordOf}
 use Rattle.families.specs.Digits.{number-digits, number-low, number-high}

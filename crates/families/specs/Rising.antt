@@ -1,16 +1,15 @@
 -- The 1983 words are in rising order and prefix-free.
-use mathlib.Core.Path.{_≡_, refl, sym, _∙_, ap}
-use mathlib.Core.Bool.{Bool, true, false}
-use mathlib.Core.List.{List, [], _∷_, _++_}
-use Prim.Native.Nat.{ℕ, zero, suc, _+_, _*_, _-_, _^_, _≤_, _<_}
-use native.Mathlib.Nat.{pow-suc, mul-le-mul, le-of-suc-le-suc}
-use native.Mathlib.Numerals.{sub-one}
+use mathlib.Core.Path.{_≡_}
+use mathlib.Core.Bool.{true, false}
+use mathlib.Core.List.{[], _∷_, _++_}
+use Prim.Native.Nat.{ℕ, zero, suc, _≤_, _<_}
+use native.Mathlib.Nat.{le-of-suc-le-suc}
 use native.Mathlib.Omega.{arith}
 use native.Mathlib.Decide.{decLt}
-use lib.Pow.{pow-add, pow-mono, pow-pos}
-use lib.ListN.{length, length-append, length-replicate, replicate}
-use Rattle.bits.specs.Strings.{Bits, turn, numberFrom, numberOf}
-use Rattle.bits.specs.Numbers.{number-from, number-append, number-ones, number-turn}
+use lib.Pow.{pow-mono}
+use lib.ListN.{length, replicate}
+use Rattle.bits.specs.Strings.{Bits}
+use Rattle.bits.specs.Binary.{numberFrom}
 use Rattle.families.specs.Families.{Below, here, there}
 use Rattle.families.specs.Words.{digitsAfterOne, withRun, wordOf}
 use Rattle.families.specs.Digits.{number-digits, number-low, number-high, number-below}

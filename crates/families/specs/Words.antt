@@ -1,11 +1,12 @@
 -- The words of 001, section II. A number of k binary digits has a word of 2k-1 bits. (Observation 1 prints the floor of
 -- twice the logarithm, plus 1; Table 1 has twice the floor, plus 1, and the table decides: the word of 3 is 101.)
 use mathlib.Core.Bool.{Bool, true, false, cond}
-use mathlib.Core.List.{List, [], _∷_, _++_}
+use mathlib.Core.List.{[], _∷_, _++_}
 use Prim.Native.Nat.{ℕ, zero, suc, _/_, _%_}
 use lib.Dec.{ltb, eqb}
 use lib.ListN.{length, replicate, drop}
-use Rattle.bits.specs.Strings.{Bits, firstBits, numberFrom}
+use Rattle.bits.specs.Strings.{Bits}
+use Rattle.bits.specs.Binary.{firstBits, numberFrom}
 
 -- the binary digits of i after its leading one; no more than i of them are asked for
 unfoldable pub digitsFrom : ℕ → ℕ → Bits

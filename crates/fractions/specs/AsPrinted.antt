@@ -1,7 +1,6 @@
 -- The continued fractions that 001 prints for 19/44 come out by running the definitions.
 use mathlib.Core.Path.{_≡_, refl}
-use mathlib.Core.List.{List, [], _∷_}
-use Prim.Native.Nat.{ℕ}
+use mathlib.Core.List.{[], _∷_}
 use Rattle.fractions.specs.Fractions.{_over_, valueOf, dividedFrom, usual, gcd, lowestTerms, formOf}
 
 usual-example : usual 19 44 ≡ 0 ∷ 2 ∷ 3 ∷ 6 ∷ []

@@ -1,11 +1,11 @@
 -- The order of quotient lists, and that their values stand in it. The empty list is infinity; below a quotient the order
 -- turns round, so the arguments change places.
-use mathlib.Core.Path.{_≡_, refl, sym, ap}
+use mathlib.Core.Path.{_≡_, refl, ap}
 use mathlib.Core.Bool.{Bool, true, false, not, cond, false≢true}
 use mathlib.Core.Logic.{_⊎_, inl, inr}
 use mathlib.Core.List.{List, [], _∷_}
-use Prim.Native.Nat.{ℕ, suc, _+_, _*_, _≤_, _<_}
-use native.Mathlib.Nat.{mul-le-mul-right, mul-le-mul-left, mul-lt-mul-of-pos-right, mul-pos}
+use Prim.Native.Nat.{ℕ, _+_, _*_, _≤_, _<_}
+use native.Mathlib.Nat.{mul-le-mul-right, mul-lt-mul-of-pos-right}
 use native.Mathlib.Omega.{arith}
 use native.Mathlib.Decide.{decLt}
 use Rattle.fractions.specs.Fractions.{Ratio, onto, valueOf, Quotients, Form, EvenEnded}
@@ -15,19 +15,21 @@ pub data Less : List ℕ → List ℕ → Type 0 where
   reversed : (a : ℕ) {l m : List ℕ} → Less m l → Less (a ∷ l) (a ∷ m)
   finite : {a : ℕ} {l : List ℕ} → Less (a ∷ l) []
 
-pub compared : (l m : List ℕ) → Less l m ⊎ ((l ≡ m) ⊎ Less m l)
+abbrev pub Compared : List ℕ → List ℕ → Type 0
+Compared l m = Less l m ⊎ ((l ≡ m) ⊎ Less m l)
+
+pub compared : (l m : List ℕ) → Compared l m
 compared [] [] = inr (inl refl)
 compared [] (b ∷ m) = inr (inr finite)
 compared (a ∷ l) [] = inl finite
 compared (a ∷ l) (b ∷ m) = by-first (decLt a b) (decLt b a) (compared l m)
   where
-    by-rest : Less l m ⊎ ((l ≡ m) ⊎ Less m l) → Less (a ∷ l) (a ∷ m) ⊎ ((a ∷ l ≡ a ∷ m) ⊎ Less (a ∷ m) (a ∷ l))
+    by-rest : Compared l m → Compared (a ∷ l) (a ∷ m)
     by-rest (inl h) = inr (inr (reversed a h))
     by-rest (inr (inl e)) = inr (inl (ap {B = List ℕ} (λ r. a ∷ r) e))
     by-rest (inr (inr h)) = inl (reversed a h)
 
-    by-first : Dec (a < b) → Dec (b < a) → Less l m ⊎ ((l ≡ m) ⊎ Less m l)
-        → Less (a ∷ l) (b ∷ m) ⊎ ((a ∷ l ≡ b ∷ m) ⊎ Less (b ∷ m) (a ∷ l))
+    by-first : Dec (a < b) → Dec (b < a) → Compared l m → Compared (a ∷ l) (b ∷ m)
     by-first (yes h) d c = inl (smaller h)
     by-first (no n) (yes h) c = inr (inr (smaller h))
     by-first (no n) (no k) c = let e : b ≡ a = omega arith in rw e (by-rest c)
@@ -89,7 +91,7 @@ pub even-ended-unique : (l m : List ℕ) → EvenEnded l → EvenEnded m
     → (valueOf l) .num * (valueOf m) .den ≡ (valueOf m) .num * (valueOf l) .den → l ≡ m
 even-ended-unique l m s t e = by-order (compared l m)
   where
-    by-order : Less l m ⊎ ((l ≡ m) ⊎ Less m l) → l ≡ m
+    by-order : Compared l m → l ≡ m
     by-order (inl h) = absurd (omega (arith, less-under false h s t))
     by-order (inr (inl q)) = q
     by-order (inr (inr h)) = absurd (omega (arith, less-under false h t s))

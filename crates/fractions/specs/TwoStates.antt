@@ -1,8 +1,8 @@
 -- Euclid's algorithm in two states that alternate, the way the code goes. Before a word (false) p is divided by q. Before
 -- a turned word (true) p-1 is, so that the remainder taken from p is at least 1 and a word follows; with q = 0 it has
 -- ended. It gives the even-ended form with no special case for its last quotient.
-use mathlib.Core.Path.{_≡_, refl, sym, _∙_, ap}
-use mathlib.Core.Bool.{Bool, true, false, not, cond}
+use mathlib.Core.Path.{_≡_, refl, sym, ap}
+use mathlib.Core.Bool.{Bool, true, false, cond}
 use mathlib.Core.Logic.{_⊎_, inl, inr}
 use mathlib.Core.List.{List, [], _∷_}
 use Prim.Native.Nat.{ℕ, zero, suc, _+_, _*_, _-_, _/_, _%_, _≤_, _<_}

@@ -1,9 +1,8 @@
 -- What 001 and the scope print of keys, beside the table of whole keys, comes out by running the definitions.
 use mathlib.Core.Path.{_≡_, refl}
-use mathlib.Core.List.{List, [], _∷_, _++_, map}
-use Prim.Native.Nat.{ℕ}
+use mathlib.Core.List.{[], _∷_, map}
 use lib.ListN.{replicate}
-use Rattle.bits.specs.Strings.{Bits, bitsOf}
+use Rattle.bits.specs.Strings.{bitsOf}
 use Rattle.families.specs.Words.{digitsFrom, digitsAfterOne, wordOf, firstNumber}
 use Rattle.families.specs.Published.{words1983}
 use Rattle.fractions.specs.Fractions.{_over_, dividedFrom, usual, formOf}

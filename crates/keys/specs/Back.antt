@@ -2,12 +2,11 @@
 -- value is that key (001, Observation 3).
 use mathlib.Core.Path.{_≡_, refl, sym, _∙_, ap}
 use mathlib.Core.Bool.{Bool, true, false, false≢true}
-use mathlib.Core.Logic.{_⊎_, inl, inr}
-use mathlib.Core.List.{List, [], _∷_, _++_, nil≢cons}
-use Prim.Native.Nat.{ℕ, zero, suc, _+_, _*_, _≤_}
-use native.Mathlib.Omega.{arith}
+use mathlib.Core.Logic.{inl, inr}
+use mathlib.Core.List.{List, [], _∷_, nil≢cons}
+use Prim.Native.Nat.{ℕ, zero, suc, _≤_}
 use Rattle.bits.specs.Strings.{Bits, turn, Same, trimmed, closed}
-use Rattle.bits.specs.Trim.{trimmed-same, trimmed-ended, trimmed-ends, closed-same}
+use Rattle.bits.specs.Trim.{trimmed-same, trimmed-ended, Tidy, tidy-trimmed, closed-same}
 use Rattle.families.specs.Families.{Family}
 use Rattle.fractions.specs.Fractions.{Ratio, _over_, valueOf, formOf, gcd, lowestTerms, EvenEnded}
 use Rattle.fractions.specs.Lists.{value-spread, spread-positive, even-ended-unique}
@@ -40,9 +39,9 @@ canonical-same [] k c d e = absurd (not-canonical c)
 canonical-same (b ∷ s) k c d e = sym (closed-canonical (b ∷ s) c) ∙ closed-to b s k d (λ i. sym (e i))
 
 pub canonical-closed : (b : Bool) (s : Bits) → Canonical (closed (b ∷ s))
-canonical-closed b s = by-rest b (trimmed-ends s)
+canonical-closed b s = by-rest b (tidy-trimmed s)
   where
-    by-rest : (b : Bool) → (trimmed s ≡ []) ⊎ ((t : Bits) × (trimmed s ≡ t ++ (true ∷ []))) → Canonical (b ∷ trimmed s)
+    by-rest : (b : Bool) → Tidy (trimmed s) → Canonical (b ∷ trimmed s)
     by-rest true (inl e) = inr ([], ap {B = Bits} (λ r. true ∷ r) e)
     by-rest false (inl e) = inl (ap {B = Bits} (λ r. false ∷ r) e)
     by-rest b (inr (t, e)) = inr (b ∷ t, ap {B = Bits} (λ r. b ∷ r) e)

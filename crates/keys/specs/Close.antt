@@ -1,135 +1,123 @@
 -- Two lists of quotients whose 1983 words agree in their first k bits have values that are near each other, both ways.
-use mathlib.Core.Path.{_≡_, refl, sym, _∙_, ap}
+use mathlib.Core.Path.{_≡_, sym, _∙_, ap}
 use mathlib.Core.Bool.{Bool, true, false, not, false≢true}
-use mathlib.Core.Logic.{_⊎_, inl, inr}
 use mathlib.Core.List.{List, [], _∷_, _++_, append-assoc}
-use Prim.Native.Nat.{ℕ, zero, suc, _+_, _*_, _-_, _^_, _≤_, _<_}
-use native.Mathlib.Nat.{mul-le-mul-right}
+use Prim.Native.Nat.{ℕ, suc, _+_, _*_, _-_, _^_, _≤_}
 use native.Mathlib.Omega.{arith}
 use lib.Pow.{pow-mono, pow-add}
 use lib.ListN.{length, replicate, take}
-use Rattle.bits.specs.Strings.{Bits, turn, Agree, numberFrom}
+use Rattle.bits.specs.Strings.{Bits, turn, Agree}
+use Rattle.bits.specs.Binary.{numberFrom}
 use Rattle.bits.specs.Order.{turn-turn, agree-turn}
 use Rattle.families.specs.Words.{digitsAfterOne, wordOf}
 use Rattle.families.specs.Digits.{number-digits}
 use Rattle.families.specs.Measured.{digits-low}
-use Rattle.families.specs.Meeting.{ones-meet, run-meet, digits-meet, Block, block}
+use Rattle.families.specs.Meeting.{ones-meet, RunsMeet, runs-meet, DigitsMeet, digits-meet, Block, block}
 use Rattle.families.specs.Published.{words1983}
 use Rattle.fractions.specs.Fractions.{Ratio, onto, valueOf, Quotients}
 use Rattle.fractions.specs.Lists.{Spread, value-spread}
 use Rattle.keys.specs.Keys.{spelled}
-use Rattle.keys.specs.Near.{Near, Far, far-onto, near-far, near-digits, near-next}
+use Rattle.keys.specs.Near.{Denominators, after, Near, Far, far-onto, near-far, near-digits, near-next}
 
-spelled-first : (a : ℕ) (l : List ℕ) → spelled words1983 (a ∷ l)
-    ≡ replicate (length (digitsAfterOne a)) true ++ (false ∷ (digitsAfterOne a ++ turn (spelled words1983 l)))
+-- the words of a list
+abbrev pub words : List ℕ → Bits
+words l = spelled words1983 l
+
+-- the ones in front of the word of a
+abbrev run : ℕ → ℕ
+run a = length (digitsAfterOne a)
+
+words-first : (a : ℕ) (l : List ℕ)
+    → words (a ∷ l) ≡ replicate (run a) true ++ (false ∷ (digitsAfterOne a ++ turn (words l)))
 unfolding wordOf
-spelled-first a l = append-assoc (replicate (length (digitsAfterOne a)) true) (false ∷ digitsAfterOne a) (turn (spelled words1983 l))
+words-first a l = append-assoc (replicate (run a) true) (false ∷ digitsAfterOne a) (turn (words l))
 
 -- each is near the other
-abbrev pub Close : ℕ → ℕ → ℕ → Ratio → Ratio → Type 0
-Close k u v x y = Near k u v x y × Near k u v y x
+abbrev pub Close : ℕ → Denominators → Ratio → Ratio → Type 0
+Close k D x y = Near k D x y × Near k D y x
 
-module _ (z : Bool) (k u v : ℕ) (le : u ≤ v) (pos : 1 ≤ v) where
-  -- both are in reach of one run
-  close-far : (l m : List ℕ) → Quotients z l → Quotients z m → Far z k (valueOf l) → Far z k (valueOf m)
-      → Close k u v (valueOf l) (valueOf m)
-  close-far l m p q f g =
-      let s = value-spread z l p in
-      let t = value-spread z m q in
-      (near-far k u v le pos z (valueOf l) (valueOf m) s t g, near-far k u v le pos z (valueOf m) (valueOf l) t s f)
+-- both are in reach of one run
+close-far : (z : Bool) (k : ℕ) (D : Denominators) (l m : List ℕ) → Quotients z l → Quotients z m
+    → Far z k (valueOf l) → Far z k (valueOf m) → Close k D (valueOf l) (valueOf m)
+close-far z k D l m p q f g =
+    let s = value-spread z l p in
+    let t = value-spread z m q in
+    (near-far k D z (valueOf l) (valueOf m) s t g, near-far k D z (valueOf m) (valueOf l) t s f)
 
-  far : (a : ℕ) (l : List ℕ) → 1 ≤ a → Quotients (not z) l → k ≤ length (digitsAfterOne a) → Far z k (valueOf (a ∷ l))
-  far a l h q e = far-onto z k a (valueOf l) (value-spread (not z) l q) (omega (arith, digits-low a h, pow-mono e))
-
--- infinity is in reach of every run
+-- infinity is in reach of every run, and a word of those within its own
 far-none : (k : ℕ) → Far true k (valueOf [])
 far-none k = omega arith
 
--- their words agree in the run and j digits
-close-digits : (z : Bool) (j a b u v : ℕ) (x y : Ratio) → u ≤ v → 1 ≤ v → 1 ≤ a → 1 ≤ b → Spread z x → Spread z y
-    → length (digitsAfterOne a) ≡ length (digitsAfterOne b) → j ≤ length (digitsAfterOne a)
-    → take j (digitsAfterOne a) ≡ take j (digitsAfterOne b)
-    → Close (suc (length (digitsAfterOne a)) + j) u v (onto a x) (onto b y)
-close-digits z j a b u v x y le pos ha hb s t e h p =
-    (near-digits z j r A H a b u v x y le pos width of-a of-b s t, near-digits z j r A H b a u v y x le pos width of-b of-a t s)
-  where
-    r : ℕ
-    r = length (digitsAfterOne a)
+far-word : (z : Bool) (k a : ℕ) (l : List ℕ) → 1 ≤ a → Quotients (not z) l → k ≤ run a → Far z k (valueOf (a ∷ l))
+far-word z k a l h q e =
+    far-onto z k a (valueOf l) (value-spread (not z) l q) (omega (arith, digits-low a h, pow-mono e))
 
+-- the words of a and b agree in their runs and in j digits
+close-digits : (z : Bool) (j a b : ℕ) (D : Denominators) (x y : Ratio) → 1 ≤ a → 1 ≤ b → Spread z x → Spread z y
+    → run a ≡ run b → j ≤ run a → take j (digitsAfterOne a) ≡ take j (digitsAfterOne b)
+    → Close (suc (run a) + j) D (onto a x) (onto b y)
+close-digits z j a b D x y ha hb s t e h p =
+    (near-digits z j (run a) A H a b D x y width of-a of-b s t, near-digits z j (run a) A H b a D y x width of-b of-a t s)
+  where
     H : ℕ
-    H = 2 ^ (r - j)
+    H = 2 ^ (run a - j)
 
     A : ℕ
     A = numberFrom 1 (take j (digitsAfterOne a)) * H
 
-    width : H * 2 ^ j ≡ 2 ^ r
-    width = sym (pow-add 2 (r - j) j) ∙ ap (λ (n : ℕ). 2 ^ n) (omega arith)
+    width : H * 2 ^ j ≡ 2 ^ run a
+    width = sym (pow-add 2 (run a - j) j) ∙ ap (λ (n : ℕ). 2 ^ n) (omega arith)
 
-    of-a : Block A H r a
+    of-a : Block A H (run a) a
     of-a = rw (number-digits a ha) at (block j (digitsAfterOne a) h)
 
-    of-b : Block A H r b
+    of-b : Block A H (run a) b
     of-b = rw (e, p) (rw (number-digits b hb) at (block j (digitsAfterOne b) (omega arith)))
 
--- they begin with one whole word
-close-next : (a i u v : ℕ) (x y : Ratio) → u ≤ v → 1 ≤ v → 1 ≤ a → Close i v (a * v + u) x y
-    → Close (suc (length (digitsAfterOne a)) + length (digitsAfterOne a) + i) u v (onto a x) (onto a y)
-close-next a i u v x y le pos h c =
-    let r = length (digitsAfterOne a) in
-    (near-next r a i u v x y le pos (digits-low a h) (c .1), near-next r a i u v y x le pos (digits-low a h) (c .0))
+-- they are one word
+close-next : (a i : ℕ) (h : 1 ≤ a) (D : Denominators) (x y : Ratio) → Close i (after a h D) x y
+    → Close (suc (run a) + run a + i) D (onto a x) (onto a y)
+close-next a i h D x y c =
+    (near-next (run a) a i h D x y (digits-low a h) (c .1), near-next (run a) a i h D y x (digits-low a h) (c .0))
 
--- two lists that go on, each with a word; what follows one word is as close as `again` says
-close-words : (z : Bool) (a b : ℕ) (l m : List ℕ) → 1 ≤ a → 1 ≤ b → Quotients (not z) l → Quotients (not z) m
-    → (k : ℕ) → Agree z k (spelled words1983 (a ∷ l)) (spelled words1983 (b ∷ m)) → (u v : ℕ) → u ≤ v → 1 ≤ v
-    → ((i : ℕ) → Agree (not z) i (spelled words1983 l) (spelled words1983 m) → Close i v (a * v + u) (valueOf l) (valueOf m))
-    → Close k u v (valueOf (a ∷ l)) (valueOf (b ∷ m))
-close-words z a b l m ha hb p q k e u v le pos again =
-    by-run (run-meet z k r (length t) (s ++ x) (t ++ y) (rw (spelled-first a l, spelled-first b m) at e))
-  where
-    s : Bits
-    s = digitsAfterOne a
+-- two lists that begin with the words of a and b; `again` says how close what follows one word is
+module _ (z : Bool) (a b : ℕ) (l m : List ℕ) (ha : 1 ≤ a) (hb : 1 ≤ b) (p : Quotients (not z) l) (q : Quotients (not z) m)
+    (k : ℕ) (D : Denominators)
+    (again : (i : ℕ) → Agree (not z) i (words l) (words m) → Close i (after a ha D) (valueOf l) (valueOf m)) where
+  past-run : run a ≡ run b → (j : ℕ) → k ≡ suc (run a) + j
+      → DigitsMeet z j (digitsAfterOne a) (digitsAfterOne b) (turn (words l)) (turn (words m))
+      → Close k D (valueOf (a ∷ l)) (valueOf (b ∷ m))
+  past-run g j n (DigitsMeet.inside h d) =
+      rw n
+      (close-digits (not z) j a b D (valueOf l) (valueOf m) ha hb (value-spread (not z) l p) (value-spread (not z) m q) g h d)
+  past-run g j n (DigitsMeet.past d i c f) =
+      let one : b ≡ a = sym (number-digits b hb) ∙ ap (numberFrom 1) (sym d) ∙ number-digits a ha in
+      let whole : k ≡ suc (run a) + run a + i = omega arith in
+      let rest : Agree (not z) i (words l) (words m) =
+      rw (turn-turn (words l), turn-turn (words m)) at (agree-turn z i (turn (words l)) (turn (words m)) f) in
+      rw (whole, one) (close-next a i ha D (valueOf l) (valueOf m) (again i rest))
 
-    t : Bits
-    t = digitsAfterOne b
+  close-words : Agree z k (words (a ∷ l)) (words (b ∷ m)) → Close k D (valueOf (a ∷ l)) (valueOf (b ∷ m))
+  close-words e = by-run (runs-meet z k (run a) (run b) _ _ (rw (words-first a l, words-first b m) at e))
+    where
+      by-run : RunsMeet z k (run a) (run b) (digitsAfterOne a ++ turn (words l)) (digitsAfterOne b ++ turn (words m))
+          → Close k D (valueOf (a ∷ l)) (valueOf (b ∷ m))
+      by-run (RunsMeet.inside f g) =
+          close-far z k D (a ∷ l) (b ∷ m) (ha, p) (hb, q) (far-word z k a l ha p f) (far-word z k b m hb q g)
+      by-run (RunsMeet.past g j n f) =
+          past-run g j n (digits-meet z j (digitsAfterOne a) (digitsAfterOne b) (turn (words l)) (turn (words m)) g f)
 
-    x : Bits
-    x = turn (spelled words1983 l)
-
-    y : Bits
-    y = turn (spelled words1983 m)
-
-    r : ℕ
-    r = length s
-
-    by-digits : r ≡ length t → (j : ℕ) → k ≡ suc r + j
-        → ((j ≤ r) × (take j s ≡ take j t)) ⊎ ((s ≡ t) × ((i : ℕ) × (j ≡ r + i) × Agree z i x y))
-        → Close k u v (valueOf (a ∷ l)) (valueOf (b ∷ m))
-    by-digits g j n (inl (h, d)) =
-        rw n (close-digits (not z) j a b u v (valueOf l) (valueOf m) le pos ha hb (value-spread (not z) l p) (value-spread (not z) m q) g h d)
-    by-digits g j n (inr (d, (i, c, f))) =
-        let one : b ≡ a = sym (number-digits b hb) ∙ ap (numberFrom 1) (sym d) ∙ number-digits a ha in
-        let whole : k ≡ suc r + r + i = omega arith in
-        rw (whole, one) (close-next a i u v (valueOf l) (valueOf m) le pos ha
-        (again i (rw (turn-turn (spelled words1983 l), turn-turn (spelled words1983 m)) at (agree-turn z i x y f))))
-
-    by-run : ((k ≤ r) × (k ≤ length t)) ⊎ ((r ≡ length t) × ((j : ℕ) × (k ≡ suc r + j) × Agree z j (s ++ x) (t ++ y)))
-        → Close k u v (valueOf (a ∷ l)) (valueOf (b ∷ m))
-    by-run (inl (f, g)) =
-        close-far z k u v le pos (a ∷ l) (b ∷ m) (ha, p) (hb, q) (far z k u v le pos a l ha p f) (far z k u v le pos b m hb q g)
-    by-run (inr (g, (j, n, f))) = by-digits g j n (digits-meet z j s t x y g f)
-
--- two lists that are spelled alike in the first k bits, from any two convergents on
-pub close : (z : Bool) (l m : List ℕ) → Quotients z l → Quotients z m → (k : ℕ) → Agree z k (spelled words1983 l) (spelled words1983 m)
-    → (u v : ℕ) → u ≤ v → 1 ≤ v → Close k u v (valueOf l) (valueOf m)
-close true [] [] p q k e u v le pos = close-far true k u v le pos [] [] p q (far-none k) (far-none k)
-close true [] (b ∷ m) p (h, q) k e u v le pos =
-    close-far true k u v le pos [] (b ∷ m) p (h, q) (far-none k)
-    (far true k u v le pos b m h q (ones-meet k (length (digitsAfterOne b)) _ (rw spelled-first at e)))
-close true (a ∷ l) [] (h, p) q k e u v le pos =
-    close-far true k u v le pos (a ∷ l) [] (h, p) q
-    (far true k u v le pos a l h p (ones-meet k (length (digitsAfterOne a)) _ (λ i j. sym ((rw spelled-first at e) i j)))) (far-none k)
-close false [] m p q k e u v le pos = absurd (false≢true p)
-close false (a ∷ l) [] p q k e u v le pos = absurd (false≢true q)
-close z (a ∷ l) (b ∷ m) (h, p) (i, q) k e u v le pos =
-    close-words z a b l m h i p q k e u v le pos
-    (λ j f. close (not z) l m p q j f v (a * v + u) (omega (arith, mul-le-mul-right v h)) (omega (arith, mul-le-mul-right v h)))
+-- two lists that are spelled alike in the first k bits, after any two convergents
+pub close : (z : Bool) (l m : List ℕ) → Quotients z l → Quotients z m → (k : ℕ) → Agree z k (words l) (words m)
+    → (D : Denominators) → Close k D (valueOf l) (valueOf m)
+close true [] [] p q k e D = close-far true k D [] [] p q (far-none k) (far-none k)
+close true [] (b ∷ m) p (h, q) k e D =
+    close-far true k D [] (b ∷ m) p (h, q) (far-none k)
+    (far-word true k b m h q (ones-meet k (run b) _ (rw words-first at e)))
+close true (a ∷ l) [] (h, p) q k e D =
+    close-far true k D (a ∷ l) [] (h, p) q
+    (far-word true k a l h p (ones-meet k (run a) _ (λ i j. sym ((rw words-first at e) i j)))) (far-none k)
+close false [] m p q k e D = absurd (false≢true p)
+close false (a ∷ l) [] p q k e D = absurd (false≢true q)
+close z (a ∷ l) (b ∷ m) (h, p) (i, q) k e D =
+    close-words z a b l m h i p q k D (λ j f. close (not z) l m p q j f (after a h D)) e

@@ -1,18 +1,16 @@
 -- Cutting two strings to one width never changes their places, though they may become the same. What is cut never grows.
-use mathlib.Core.Path.{_≡_, refl, sym, _∙_, ap}
-use mathlib.Core.Bool.{Bool, true, false, false≢true}
+use mathlib.Core.Path.{_≡_, sym, _∙_}
+use mathlib.Core.Bool.{false, false≢true}
 use mathlib.Core.Logic.{_⊎_, inl, inr}
-use mathlib.Core.List.{List, [], _∷_, _++_}
+use mathlib.Core.List.{[], _∷_}
 use Prim.Native.Nat.{ℕ, zero, suc, _*_, _≤_, _<_}
 use native.Mathlib.Omega.{arith}
 use native.Mathlib.Decide.{decLt}
-use lib.ListN.{getD, length, take, length-take, List·getD-eq-default}
+use lib.ListN.{getD, take, length-take, List·getD-eq-default}
 use lib.Seq.{getD-take}
-use Rattle.bits.specs.Strings.{Bits, Same, Agree, Before, _≺_}
-use Rattle.bits.specs.Order.{same-append, before-first, before-cons, before-same}
+use Rattle.bits.specs.Strings.{Bits, Same, Agree, _≺_}
 use Rattle.bits.specs.Trim.{closed-same}
 use Rattle.families.specs.Families.{Family}
-use Rattle.fractions.specs.Fractions.{Ratio}
 use Rattle.keys.specs.Keys.{cutTo, Canonical, valueOfKey}
 use Rattle.keys.specs.Back.{canonical-closed, canonical-same, not-canonical}
 use Rattle.keys.specs.Order.{value-order}

@@ -5,7 +5,8 @@ use mathlib.Core.Logic.{_⊎_}
 use mathlib.Core.List.{List, [], _∷_, _++_}
 use Prim.Native.Nat.{ℕ, zero, suc, _+_, _*_}
 use lib.ListN.{length, take, drop}
-use Rattle.bits.specs.Strings.{Bits, turn, closed, bytesOf}
+use Rattle.bits.specs.Strings.{Bits, turn, closed}
+use Rattle.bits.specs.Binary.{bytesOf}
 use Rattle.families.specs.Families.{Family, ended}
 use Rattle.fractions.specs.Fractions.{Ratio, valueOf, formOf}
 

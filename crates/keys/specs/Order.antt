@@ -1,8 +1,8 @@
 -- Order, over any family: keys stand as the ratios do by cross products, and are equal only if the ratios are (001, the
 -- Lemma of section III and Observation 4).
-use mathlib.Core.Path.{_≡_, refl, sym, _∙_, ap}
-use mathlib.Core.Bool.{true, false}
-use mathlib.Core.Logic.{_⊎_, inl, inr, _↔_}
+use mathlib.Core.Path.{_≡_, refl, sym, ap}
+use mathlib.Core.Bool.{false}
+use mathlib.Core.Logic.{inl, inr, _↔_}
 use mathlib.Core.List.{List}
 use Prim.Native.Nat.{ℕ, _*_, _≤_, _<_}
 use native.Mathlib.Nat.{mul-lt-mul-of-pos-left, mul-pos}
@@ -12,7 +12,7 @@ use Rattle.bits.specs.Order.{before-not-equal, before-asym}
 use Rattle.bits.specs.Trim.{closed-order}
 use Rattle.families.specs.Families.{Family}
 use Rattle.fractions.specs.Fractions.{Ratio, valueOf, formOf, gcd}
-use Rattle.fractions.specs.Lists.{Less, compared, Under, less-under}
+use Rattle.fractions.specs.Lists.{Less, Compared, compared, Under, less-under}
 use Rattle.fractions.specs.Euclid.{Scaled, form-scaled}
 use Rattle.fractions.specs.TwoStates.{form-even-ended}
 use Rattle.keys.specs.Keys.{written, keyOf, Canonical, valueOfKey}
@@ -53,9 +53,7 @@ module _ (F : Family) where
     pub standing : Standing p q r s
     standing = by-lists (compared (formOf p q) (formOf r s))
       where
-        by-lists : Less (formOf p q) (formOf r s)
-            ⊎ ((formOf p q ≡ formOf r s) ⊎ Less (formOf r s) (formOf p q))
-            → Standing p q r s
+        by-lists : Compared (formOf p q) (formOf r s) → Standing p q r s
         by-lists (inl h) = let (k, c) = less-both p q r s hq hs h in before k c
         by-lists (inr (inl e)) = level (unfold keyOf in ap (λ (l : List ℕ). closed (written F l)) e)
             (scaled-level (gcd p q) (gcd r s) p q r s (valueOf (formOf p q))

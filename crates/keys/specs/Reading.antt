@@ -1,12 +1,12 @@
 -- Reading a string gives quotients that are written as that string: reading undoes writing, over any family.
-use mathlib.Core.Path.{_≡_, refl, sym, _∙_, ap, subst}
+use mathlib.Core.Path.{_≡_, refl, sym, _∙_}
 use mathlib.Core.Bool.{Bool, true, false, not, cond, true≢false, false≢true}
 use mathlib.Core.List.{List, [], _∷_, _++_}
-use Prim.Native.Nat.{ℕ, zero, suc, _+_, _*_, _-_, _≤_, _<_}
+use Prim.Native.Nat.{ℕ, zero, suc, _+_, _*_, _≤_}
 use native.Mathlib.Omega.{arith}
-use lib.ListN.{length, getD, drop, length-drop, length-map}
+use lib.ListN.{length, drop, length-drop, length-map}
 use Rattle.bits.specs.Strings.{Bits, turn, Same, allOnes}
-use Rattle.bits.specs.Order.{not-not, turn-turn, same-turn, same-append, same-drop, same-turned}
+use Rattle.bits.specs.Order.{same-append, same-drop, same-turned}
 use Rattle.bits.specs.Trim.{same-trimmed}
 use Rattle.families.specs.Families.{Below, here, there, Family, ended}
 use Rattle.fractions.specs.Fractions.{Quotients, EvenEnded}

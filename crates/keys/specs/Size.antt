@@ -1,21 +1,19 @@
 -- Size, over any family: for numerator and denominator of at most 32 bits the string that is written has at most 96
 -- characters, before zeros are dropped and after, and at most 46 quotients are written.
-use mathlib.Core.Path.{_≡_, refl, sym, _∙_, ap}
+use mathlib.Core.Path.{_≡_}
 use mathlib.Core.Bool.{Bool, true, false, not, false≢true}
-use mathlib.Core.Logic.{_⊎_, inl, inr}
-use mathlib.Core.List.{List, [], _∷_, _++_}
-use Prim.Native.Nat.{ℕ, zero, suc, _+_, _*_, _-_, _^_, _≤_, _<_}
+use mathlib.Core.List.{List, [], _∷_}
+use Prim.Native.Nat.{ℕ, zero, suc, _+_, _*_, _^_, _≤_, _<_}
 use native.Mathlib.Nat.{mul-le-mul, mul-le-mul-left, mul-le-mul-right, add-le-add, le-trans, le-of-suc-le-suc}
 use native.Mathlib.Omega.{arith}
 use native.Mathlib.Decide.{decLt}
 use lib.Pow.{pow-add, pow-mono}
 use lib.ListN.{length, replicate, length-append, length-map}
-use Rattle.bits.specs.Strings.{Bits}
 use Rattle.bits.specs.Trim.{closed-length}
 use Rattle.families.specs.Families.{Family}
-use Rattle.fractions.specs.Fractions.{Ratio, onto, valueOf, formOf, gcd, Quotients, EvenEnded}
+use Rattle.fractions.specs.Fractions.{Ratio, valueOf, formOf, Quotients, EvenEnded}
 use Rattle.fractions.specs.Lists.{value-spread, spread-positive, spread-proper}
-use Rattle.fractions.specs.Euclid.{Scaled, form-scaled}
+use Rattle.fractions.specs.Euclid.{form-scaled}
 use Rattle.fractions.specs.TwoStates.{form-even-ended}
 use Rattle.keys.specs.Keys.{spelled, written, keyOf, countOf}
 

@@ -1,15 +1,15 @@
 -- Spelled lists stand as the lists do: in the order of their values.
-use mathlib.Core.Path.{_≡_, refl, sym, _∙_, ap}
+use mathlib.Core.Path.{_≡_, refl, sym}
 use mathlib.Core.Bool.{Bool, true, false, not, false≢true}
-use mathlib.Core.Logic.{_⊎_, inl, inr}
+use mathlib.Core.Logic.{inl, inr}
 use mathlib.Core.List.{List, [], _∷_, _++_}
-use Prim.Native.Nat.{ℕ, zero, suc, _≤_, _<_}
+use Prim.Native.Nat.{ℕ, zero, suc}
 use native.Mathlib.Omega.{arith}
 use Rattle.bits.specs.Strings.{Bits, turn, Same, Before, _≺_}
 use Rattle.bits.specs.Order.{not-not, before-first, before-cons, before-append, before-turn, before-same, before-not-same}
 use Rattle.families.specs.Families.{Below, here, there, Family}
 use Rattle.fractions.specs.Fractions.{Quotients, EvenEnded}
-use Rattle.fractions.specs.Lists.{Less, smaller, reversed, finite, compared}
+use Rattle.fractions.specs.Lists.{Less, smaller, reversed, finite, Compared, compared}
 use Rattle.keys.specs.Keys.{spelled, written}
 
 -- strings that differ inside both stand so whatever follows
@@ -58,7 +58,7 @@ module _ (F : Family) where
   pub written-unique : (l m : List ℕ) → EvenEnded l → EvenEnded m → Same false (written F l) (written F m) → l ≡ m
   written-unique l m s t e = by-order (compared l m)
     where
-      by-order : Less l m ⊎ ((l ≡ m) ⊎ Less m l) → l ≡ m
+      by-order : Compared l m → l ≡ m
       by-order (inl h) = absurd (before-not-same false (written F l) (written F m) (written-order l m s t h) e)
       by-order (inr (inl q)) = q
       by-order (inr (inr h)) =

@@ -1,24 +1,10 @@
 -- How far apart the values of two strings can be that agree in their first bits: the arithmetic, on numbers alone. The
 -- last two convergents have the denominators v and, before it, u; what is still to come has the values n/d and n′/d′.
-use mathlib.Core.Path.{_≡_, refl, sym, _∙_, ap}
+use mathlib.Core.Path.{_≡_, ap}
 use mathlib.Core.Bool.{Bool, true, false, cond}
 use mathlib.Core.Logic.{_⊎_, inl, inr}
-use Prim.Native.Nat.{ℕ, zero, suc, _+_, _*_, _-_, _^_, _≤_, _<_}
-use native.Mathlib.Nat.{
-  pow-suc,
-  add-suc,
-  add-zero,
-  eq-zero-or-pos,
-  mul-pos,
-  mul-le-mul-left,
-  mul-le-mul-right,
-  mul-le-mul,
-  mul-lt-mul-of-pos-left,
-  mul-lt-mul-of-pos-right,
-  le-of-mul-le-mul-left,
-  lt-of-mul-lt-mul-left,
-  lt-of-lt-of-le,
-}
+use Prim.Native.Nat.{ℕ, zero, suc, _+_, _*_, _^_, _≤_, _<_}
+use native.Mathlib.Nat.{pow-suc, add-suc, add-zero, eq-zero-or-pos, mul-pos, mul-le-mul-left, mul-le-mul-right, mul-le-mul, mul-lt-mul-of-pos-left, mul-lt-mul-of-pos-right, le-of-mul-le-mul-left, lt-of-mul-lt-mul-left, lt-of-lt-of-le}
 use native.Mathlib.Omega.{arith}
 use lib.Pow.{pow-pos}
 
