@@ -28,8 +28,8 @@ pub record Faithful (F : Family) : Type 0 where
 
 pub record Demands : Type 0 where
   pub faithful : (F : Family) → Faithful F
-  -- Demand 3. Take any key for a value p/q below 1 and keep its first n characters. Let a/b be the value of what remains.
-  -- Then a/b is never above p/q, and (pb - aq) * 3^(n-1) < 2^(n-1) * qb.
+  -- Demand 3. Take any key for a value p/q below 1 and keep its first n characters. Let a/b be the value of what
+  -- remains. Then a/b is never above p/q, and (pb - aq) * 3^(n-1) < 2^(n-1) * qb.
   pub distance : (k : Bits) (n p q a b : ℕ) → Canonical k → 1 ≤ n
       → valueOfKey words1983 k ≡ p over q → p < q → valueOfKey words1983 (cutTo n k) ≡ a over b
       → (a * q ≤ p * b) × ((p * b - a * q) * 3 ^ (n - 1) < 2 ^ (n - 1) * (q * b))

@@ -1,6 +1,7 @@
 -- The ratios that the scope marks to be proved, each with its key: one table, and one claim about every row of it.
 use mathlib.Core.Path.{_≡_, refl, sym, _∙_, ap}
-use mathlib.Core.List.{List, [], _∷_, map, List·Memᴰ, List·Memᴰ·head, List·Memᴰ·tail, head-eq-of-cons-eq, tail-eq-of-cons-eq}
+use mathlib.Core.List.{List, [], _∷_, map, head-eq-of-cons-eq, tail-eq-of-cons-eq}
+use mathlib.Core.List.{List·Memᴰ, List·Memᴰ·head, List·Memᴰ·tail}
 use Prim.Native.String.{String}
 use Rattle.bits.specs.Strings.{Bits, bitsOf}
 use Rattle.families.specs.Words.{digitsFrom, digitsAfterOne, wordOf, firstNumber}
@@ -51,5 +52,8 @@ at-row f g t e r (List·Memᴰ·tail {xs = l} m) = at-row f g l (tail-eq-of-cons
 
 -- in every row the key is the ratio's key, and the ratio is the key's value
 pub every-row : (r : Row) → List·Memᴰ r table
-    → (keyOf words1983 (r .ratio .num) (r .ratio .den) ≡ bitsOf (r .key)) × (valueOfKey words1983 (bitsOf (r .key)) ≡ r .ratio)
-every-row r m = let e = at-row found printed table run r m in (ap (λ (x : Bits × Ratio). x .0) e, ap (λ (x : Bits × Ratio). x .1) e)
+    → (keyOf words1983 (r .ratio .num) (r .ratio .den) ≡ bitsOf (r .key))
+    × (valueOfKey words1983 (bitsOf (r .key)) ≡ r .ratio)
+every-row r m =
+    let e = at-row found printed table run r m in
+    (ap (λ (x : Bits × Ratio). x .0) e, ap (λ (x : Bits × Ratio). x .1) e)

@@ -20,7 +20,7 @@ ones-meet zero r x e = zero-le
 ones-meet (suc k) zero x e = absurd (true≢false (e 0 (omega arith)))
 ones-meet (suc k) (suc r) x e = suc-le-suc (ones-meet k r x (λ i h. e (suc i) (suc-le-suc h)))
 
--- two runs of r and s ones that stop, and then x and y, agree in k bits: inside both runs, or past both, with j bits more
+-- two runs, of r and s ones, that stop, and then x and y, agree in k bits: inside both runs; or past both, by j bits
 pub data RunsMeet (z : Bool) (k r s : ℕ) (x y : Bits) : Type 0 where
   inside : k ≤ r → k ≤ s → RunsMeet z k r s x y
   past : r ≡ s → (j : ℕ) → k ≡ suc r + j → Agree z j x y → RunsMeet z k r s x y
@@ -37,7 +37,7 @@ runs-meet z (suc k) (suc r) (suc s) x y e = longer (runs-meet z k r s x y (λ i 
     longer (inside h l) = inside (suc-le-suc h) (suc-le-suc l)
     longer (past q j h a) = past (ap suc q) j (omega arith) a
 
--- digits s and t, of one count, and then x and y, agree in j bits: in the first j digits, or past them, with i bits more
+-- digits s and t, of one count, and then x and y, agree in j bits: in the first j digits; or past them, by i bits
 pub data DigitsMeet (z : Bool) (j : ℕ) (s t x y : Bits) : Type 0 where
   inside : j ≤ length s → take j s ≡ take j t → DigitsMeet z j s t x y
   past : s ≡ t → (i : ℕ) → j ≡ length s + i → Agree z i x y → DigitsMeet z j s t x y

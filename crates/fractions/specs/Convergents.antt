@@ -1,16 +1,17 @@
--- The value of quotients taken forwards, by 001's equations (3): from the last two convergents each quotient gives the next.
+-- The value of quotients taken forwards, by 001's equations (3): from the last two convergents a quotient gives the
+-- next.
 use mathlib.Core.Path.{_≡_, _∙_}
 use mathlib.Core.Bool.{Bool}
 use mathlib.Core.List.{List, [], _∷_}
 use Prim.Native.Nat.{ℕ, _+_, _*_, _≤_}
 use native.Mathlib.Nat.{mul-le-mul-left}
 use native.Mathlib.Omega.{arith}
-use Rattle.fractions.specs.Fractions.{Ratio, valueOf, Quotients}
+use Rattle.fractions.specs.Fractions.{Ratio, _over_, valueOf, Quotients}
 use Rattle.fractions.specs.Lists.{value-spread, spread-positive}
 
 -- the convergent after u and, before that, v
 abbrev pub convergent : ℕ → Ratio → Ratio → Ratio
-convergent a u v = record { num = a * u .num + v .num; den = a * u .den + v .den }
+convergent a u v = (a * u .num + v .num) over (a * u .den + v .den)
 
 -- the last convergent, from u and, before that, v on
 abbrev pub forward : Ratio → Ratio → List ℕ → Ratio
@@ -19,26 +20,19 @@ forward u v (a ∷ l) = forward (convergent a u v) u l
 
 -- the value w of what is still to come, seen from u and v
 abbrev seenFrom : Ratio → Ratio → Ratio → Ratio
-seenFrom u v w = record { num = u .num * w .num + v .num * w .den; den = u .den * w .num + v .den * w .den }
+seenFrom u v w = (u .num * w .num + v .num * w .den) over (u .den * w .num + v .den * w .den)
+
+-- ratios whose numbers are equal
+same-ratio : {n m d e : ℕ} → n ≡ m → d ≡ e → n over d ≡ m over e
+same-ratio p q = λ i. p i over q i
 
 pub forward-seen : (l : List ℕ) (u v : Ratio) → forward u v l ≡ seenFrom u v (valueOf l)
-forward-seen [] u v =
-    let n : u .num ≡ u .num * 1 + v .num * 0 = omega arith in
-    let d : u .den ≡ u .den * 1 + v .den * 0 = omega arith in
-    λ i. record { num = n i; den = d i }
-forward-seen (a ∷ l) u v =
-    let w = valueOf l in
-    let n : (a * u .num + v .num) * w .num + u .num * w .den ≡ u .num * (a * w .num + w .den) + v .num * w .num = omega arith in
-    let d : (a * u .den + v .den) * w .num + u .den * w .den ≡ u .den * (a * w .num + w .den) + v .den * w .num = omega arith in
-    forward-seen l (convergent a u v) u ∙ (λ i. record { num = n i; den = d i })
+forward-seen [] u v = same-ratio (omega arith) (omega arith)
+forward-seen (a ∷ l) u v = forward-seen l (convergent a u v) u ∙ same-ratio (omega arith) (omega arith)
 
 -- from 1/0 and 0/1 on, the last convergent is the value
-pub forward-value : (l : List ℕ) → forward (record { num = 1; den = 0 }) (record { num = 0; den = 1 }) l ≡ valueOf l
-forward-value l =
-    let w = valueOf l in
-    let n : 1 * w .num + 0 * w .den ≡ w .num = omega arith in
-    let d : 0 * w .num + 1 * w .den ≡ w .den = omega arith in
-    forward-seen l _ _ ∙ (λ i. record { num = n i; den = d i })
+pub forward-value : (l : List ℕ) → forward (1 over 0) (0 over 1) l ≡ valueOf l
+forward-value l = forward-seen l (1 over 0) (0 over 1) ∙ same-ratio (omega arith) (omega arith)
 
 -- a convergent never falls, so the first over a limit settles that the last, the value, is over it
 pub forward-grows : (z : Bool) (l : List ℕ) (u v : Ratio) → Quotients z l

@@ -3,9 +3,11 @@
 use mathlib.Core.Path.{_≡_, refl, sym, _∙_, ap}
 use mathlib.Core.List.{List, [], _∷_}
 use Prim.Native.Nat.{ℕ, zero, suc, _+_, _*_, _-_, _/_, _%_, _≤_, _<_}
-use native.Mathlib.Nat.{div-add-mod', div-eq-of-lt-le, mod-lt, le-div-iff-mul-le, mul-div-right, mul-sub, eq-one-of-dvd-one}
+use native.Mathlib.Nat.{div-add-mod', div-eq-of-lt-le, mod-lt, le-div-iff-mul-le, mul-div-right, mul-sub}
+use native.Mathlib.Nat.{eq-one-of-dvd-one}
 use native.Mathlib.Omega.{arith}
-use Rattle.fractions.specs.Fractions.{Ratio, onto, valueOf, Divided, led, dividedFrom, usual, gcd, lowestTerms, evenEnded, formOf}
+use Rattle.fractions.specs.Fractions.{Ratio, onto, valueOf, Divided, led, dividedFrom, usual, gcd, lowestTerms}
+use Rattle.fractions.specs.Fractions.{evenEnded, formOf}
 
 pub quotient-unique : (x b q r : ℕ) → x ≡ b * q + r → r < q → (x / q ≡ b) × (x % q ≡ r)
 quotient-unique x b q r e h = (d, omega (arith, div-add-mod' x q, ap (λ (y : ℕ). y * q) d))
@@ -131,5 +133,6 @@ value-coprime (a ∷ l) c x y e d =
 pub lowest-same : (p q : ℕ) → 1 ≤ q → p * (lowestTerms p q) .den ≡ (lowestTerms p q) .num * q
 lowest-same p q h = rw (← usual-value p q h) (scaled-cross (gcd p q) p q (valueOf (usual p q)) (usual-scaled p q h))
 
-pub lowest-coprime : (p q : ℕ) → 1 ≤ q → (c x y : ℕ) → (lowestTerms p q) .num ≡ c * x → (lowestTerms p q) .den ≡ c * y → c ≡ 1
+pub lowest-coprime : (p q : ℕ) → 1 ≤ q → (c x y : ℕ)
+    → (lowestTerms p q) .num ≡ c * x → (lowestTerms p q) .den ≡ c * y → c ≡ 1
 lowest-coprime p q h = rw (← usual-value p q h) (value-coprime (usual p q))

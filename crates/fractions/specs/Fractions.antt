@@ -60,7 +60,7 @@ evenEnded (a ∷ b ∷ c ∷ l) = a ∷ b ∷ evenEnded (c ∷ l)
 unfoldable pub formOf : ℕ → ℕ → List ℕ
 formOf p q = evenEnded (usual p q)
 
--- quotients of at least 1, of which the last is spelled by a word, where the first is by a word (false) or a turned word (true)
+-- quotients of at least 1: odd in number where the first is spelled by a word (false), even where turned (true)
 abbrev pub Quotients : Bool → List ℕ → Type 0
 Quotients z [] = z ≡ true
 Quotients z (a ∷ l) = (1 ≤ a) × Quotients (not z) l

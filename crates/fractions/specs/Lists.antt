@@ -1,5 +1,5 @@
--- The order of quotient lists, and that their values stand in it. The empty list is infinity; below a quotient the order
--- turns round, so the arguments change places.
+-- The order of quotient lists, and that their values stand in it. The empty list is infinity. After equal quotients the
+-- order turns round, so the arguments change places.
 use mathlib.Core.Path.{_≡_, refl, ap}
 use mathlib.Core.Bool.{Bool, true, false, not, cond, false≢true}
 use mathlib.Core.Logic.{_⊎_, inl, inr}
@@ -34,7 +34,7 @@ compared (a ∷ l) (b ∷ m) = by-first (decLt a b) (decLt b a) (compared l m)
     by-first (no n) (yes h) c = inr (inr (smaller h))
     by-first (no n) (no k) c = let e : b ≡ a = omega arith in rw e (by-rest c)
 
--- the value of quotients from 1 on is above 1 where they are even in number, and from 1 up to infinity where they are odd
+-- the value of quotients from 1 on is above 1, or infinite, where they are even in number, and from 1 on where odd
 pub record Spread (z : Bool) (v : Ratio) : Type 0 where
   pub low : cond z 0 1 ≤ v .den
   pub high : v .den < v .num + cond z 0 1
@@ -83,8 +83,10 @@ pub less-under : (z : Bool) {l m : List ℕ} → Less l m → Form z l → Form 
 less-under z (smaller {a = a} {b = b} {l = l} {m = m} h) s t =
     under-smaller (not z) a b (valueOf l) (valueOf m) h (value-spread (not z) l s) (value-spread (not z) m t)
 less-under z (reversed a {l = l} {m = m} h) s t =
-    under-reversed a (valueOf l) (valueOf m) (less-under (not z) h (quotients-form (not z) m t) (quotients-form (not z) l s))
-less-under z (finite {a = a} {l = l}) s t = omega (arith, spread-positive (not z) (valueOf l) (value-spread (not z) l s))
+    under-reversed a (valueOf l) (valueOf m)
+    (less-under (not z) h (quotients-form (not z) m t) (quotients-form (not z) l s))
+less-under z (finite {a = a} {l = l}) s t =
+    omega (arith, spread-positive (not z) (valueOf l) (value-spread (not z) l s))
 
 -- the even-ended form is unique: two of one value are equal
 pub even-ended-unique : (l m : List ℕ) → EvenEnded l → EvenEnded m

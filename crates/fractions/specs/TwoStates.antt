@@ -1,6 +1,6 @@
--- Euclid's algorithm in two states that alternate, the way the code goes. Before a word (false) p is divided by q. Before
--- a turned word (true) p-1 is, so that the remainder taken from p is at least 1 and a word follows; with q = 0 it has
--- ended. It gives the even-ended form with no special case for its last quotient.
+-- Euclid's algorithm in two states that alternate, the way the code goes. Before a word (false) p is divided by q.
+-- Before a turned word (true) p-1 is, so that at least 1 is left of p and a word follows; with q = 0 it has ended. It
+-- gives the even-ended form with no special case for its last quotient.
 use mathlib.Core.Path.{_≡_, refl, sym, ap}
 use mathlib.Core.Bool.{Bool, true, false, cond}
 use mathlib.Core.Logic.{_⊎_, inl, inr}
@@ -38,7 +38,8 @@ module _ (q : ℕ) where
   word-left p = omega (arith, mod-lt p {m = suc q} (omega arith))
 
 -- enough steps give the same
-alternate-enough : (f g : ℕ) (z : Bool) (p q : ℕ) → left z q ≤ f → left z q ≤ g → alternateFrom f z p q ≡ alternateFrom g z p q
+alternate-enough : (f g : ℕ) (z : Bool) (p q : ℕ) → left z q ≤ f → left z q ≤ g
+    → alternateFrom f z p q ≡ alternateFrom g z p q
 unfolding alternateFrom
 alternate-enough zero g z p zero l m = sym (alternate-ended g z p)
 alternate-enough zero g z p (suc q) l m = absurd (omega arith)
@@ -46,7 +47,8 @@ alternate-enough (suc f) g z p zero l m = sym (alternate-ended g z p)
 alternate-enough (suc f) zero z p (suc q) l m = absurd (omega arith)
 alternate-enough (suc f) (suc g) true p (suc q) l m =
     ap {B = List ℕ} (λ t. (p - 1) / suc q ∷ t)
-    (alternate-enough f g false (suc q) ((p - 1) % suc q + 1) (omega (arith, turned-left q p)) (omega (arith, turned-left q p)))
+    (alternate-enough f g false (suc q) ((p - 1) % suc q + 1)
+    (omega (arith, turned-left q p)) (omega (arith, turned-left q p)))
 alternate-enough (suc f) (suc g) false p (suc q) l m =
     ap {B = List ℕ} (λ t. p / suc q ∷ t)
     (alternate-enough f g true (suc q) (p % suc q) (omega (arith, word-left q p)) (omega (arith, word-left q p)))
@@ -61,7 +63,9 @@ unfolding alternate alternateFrom
 alternate-word p zero b r e h = absurd (omega arith)
 alternate-word p (suc q) b r e h =
     let (d, m) = quotient-unique p b (suc q) r e h in
-    rw (d, m) (ap {B = List ℕ} (λ t. b ∷ t) (alternate-enough (2 * suc q) (suc (2 * r)) true (suc q) r (omega arith) (omega arith)))
+    rw (d, m)
+    (ap {B = List ℕ} (λ t. b ∷ t)
+    (alternate-enough (2 * suc q) (suc (2 * r)) true (suc q) r (omega arith) (omega arith)))
 
 -- and before a turned word
 pub alternate-turned : (p q b r : ℕ) → p ≡ b * q + r → 1 ≤ r → r ≤ q → alternate true p q ≡ b ∷ alternate false q r
@@ -70,13 +74,20 @@ alternate-turned p zero b r e k h = absurd (omega arith)
 alternate-turned p (suc q) b r e k h =
     let (d, m) = quotient-unique (p - 1) b (suc q) (r - 1) (omega arith) (omega arith) in
     let n : r - 1 + 1 ≡ r = omega arith in
-    rw (d, m, n) (ap {B = List ℕ} (λ t. b ∷ t) (alternate-enough (2 * suc q) (suc (2 * r)) false (suc q) r (omega arith) (omega arith)))
+    rw (d, m, n)
+    (ap {B = List ℕ} (λ t. b ∷ t)
+    (alternate-enough (2 * suc q) (suc (2 * r)) false (suc q) r (omega arith) (omega arith)))
 
 -- where the usual form ends at an odd index, the turned state leaves 1 for a word
 last-split : (q r b : ℕ) → 1 ≤ r → q ≡ b * r + 0 → r < q → (b - 1) ∷ 1 ∷ [] ≡ alternate true q r
 last-split q r zero h e k = absurd (omega arith)
 last-split q r (suc b) h e k =
-    rw (alternate-turned q r b r (omega arith) h (omega arith), alternate-word r r 1 0 (omega arith) h, alternate-end, sub-one)
+    rw (
+      alternate-turned q r b r (omega arith) h (omega arith),
+      alternate-word r r 1 0 (omega arith) h,
+      alternate-end,
+      sub-one,
+    )
 
 -- the even-ended form of what follows a quotient a at an even index, where q over r is still to be expanded
 abbrev Meet : ℕ → ℕ → ℕ → Type 0
@@ -86,7 +97,8 @@ meet-end : (a q r : ℕ) → r ≡ 0 → Meet a q r
 meet-end a q r e = rw (e, usual-end, alternate-end)
 
 meet-split : (a q r b : ℕ) → q ≡ b * r + 0 → 1 ≤ r → r < q → Meet a q r
-meet-split a q r b e h k = rw (usual-step q r b 0 e h, usual-end) (ap {B = List ℕ} (λ t. a ∷ t) (last-split q r b h e k))
+meet-split a q r b e h k =
+    rw (usual-step q r b 0 e h, usual-end) (ap {B = List ℕ} (λ t. a ∷ t) (last-split q r b h e k))
 
 meet-on : (a q r b s c t : ℕ) → q ≡ b * r + s → r ≡ c * s + t → s < r → t < s → Meet c s t → Meet a q r
 meet-on a q r b s c t e d h k again =

@@ -1,5 +1,5 @@
--- Reading back, over any family: the value of a ratio's key is the ratio in lowest terms, and the key of a canonical key's
--- value is that key (001, Observation 3).
+-- Reading back, over any family: the value of a ratio's key is the ratio in lowest terms, and the key of a canonical
+-- key's value is that key (001, Observation 3).
 use mathlib.Core.Path.{_≡_, refl, sym, _∙_, ap}
 use mathlib.Core.Bool.{Bool, true, false, false≢true}
 use mathlib.Core.Logic.{inl, inr}
@@ -101,5 +101,9 @@ module _ (F : Family) where
   pub key-of-one : (k : Bits) → Canonical k → (v : Ratio) × (1 ≤ v .den) × (keyOf F (v .num) (v .den) ≡ k)
       × ((p q : ℕ) → 1 ≤ q → keyOf F p q ≡ k → lowestTerms p q ≡ v)
   key-of-one k c =
-      let v = valueOfKey F k in
-      (v, value-denominator k, value-key k (v .num) (v .den) c refl, λ p q h e. sym (key-value p q h) ∙ ap (valueOfKey F) e)
+      let v = valueOfKey F k in (
+        v,
+        value-denominator k,
+        value-key k (v .num) (v .den) c refl,
+        λ p q h e. sym (key-value p q h) ∙ ap (valueOfKey F) e,
+      )

@@ -48,16 +48,18 @@ close-far z k D l m p q f g =
 far-none : (k : ℕ) → Far true k (valueOf [])
 far-none k = omega arith
 
-far-word : (z : Bool) (k a : ℕ) (l : List ℕ) → 1 ≤ a → Quotients (not z) l → k ≤ run a → Far z k (valueOf (a ∷ l))
-far-word z k a l h q e =
+far-word : (z : Bool) (k a : ℕ) (l : List ℕ) → Quotients z (a ∷ l) → k ≤ run a → Far z k (valueOf (a ∷ l))
+far-word z k a l (h, q) e =
     far-onto z k a (valueOf l) (value-spread (not z) l q) (omega (arith, digits-low a h, pow-mono e))
 
 -- the words of a and b agree in their runs and in j digits
 close-digits : (z : Bool) (j a b : ℕ) (D : Denominators) (x y : Ratio) → 1 ≤ a → 1 ≤ b → Spread z x → Spread z y
     → run a ≡ run b → j ≤ run a → take j (digitsAfterOne a) ≡ take j (digitsAfterOne b)
     → Close (suc (run a) + j) D (onto a x) (onto b y)
-close-digits z j a b D x y ha hb s t e h p =
-    (near-digits z j (run a) A H a b D x y width of-a of-b s t, near-digits z j (run a) A H b a D y x width of-b of-a t s)
+close-digits z j a b D x y ha hb s t e h p = (
+  near-digits z j (run a) A H a b D x y width of-a of-b s t,
+  near-digits z j (run a) A H b a D y x width of-b of-a t s,
+)
   where
     H : ℕ
     H = 2 ^ (run a - j)
@@ -81,29 +83,29 @@ close-next a i h D x y c =
     (near-next (run a) a i h D x y (digits-low a h) (c .1), near-next (run a) a i h D y x (digits-low a h) (c .0))
 
 -- two lists that begin with the words of a and b; `again` says how close what follows one word is
-module _ (z : Bool) (a b : ℕ) (l m : List ℕ) (ha : 1 ≤ a) (hb : 1 ≤ b) (p : Quotients (not z) l) (q : Quotients (not z) m)
+module _ (z : Bool) (a b : ℕ) (l m : List ℕ) (p : Quotients z (a ∷ l)) (q : Quotients z (b ∷ m))
     (k : ℕ) (D : Denominators)
-    (again : (i : ℕ) → Agree (not z) i (words l) (words m) → Close i (after a ha D) (valueOf l) (valueOf m)) where
+    (again : (i : ℕ) → Agree (not z) i (words l) (words m) → Close i (after a (p .0) D) (valueOf l) (valueOf m)) where
   past-run : run a ≡ run b → (j : ℕ) → k ≡ suc (run a) + j
       → DigitsMeet z j (digitsAfterOne a) (digitsAfterOne b) (turn (words l)) (turn (words m))
       → Close k D (valueOf (a ∷ l)) (valueOf (b ∷ m))
   past-run g j n (DigitsMeet.inside h d) =
-      rw n
-      (close-digits (not z) j a b D (valueOf l) (valueOf m) ha hb (value-spread (not z) l p) (value-spread (not z) m q) g h d)
+      let s = value-spread (not z) l (p .1) in
+      let t = value-spread (not z) m (q .1) in
+      rw n (close-digits (not z) j a b D (valueOf l) (valueOf m) (p .0) (q .0) s t g h d)
   past-run g j n (DigitsMeet.past d i c f) =
-      let one : b ≡ a = sym (number-digits b hb) ∙ ap (numberFrom 1) (sym d) ∙ number-digits a ha in
+      let one : b ≡ a = sym (number-digits b (q .0)) ∙ ap (numberFrom 1) (sym d) ∙ number-digits a (p .0) in
       let whole : k ≡ suc (run a) + run a + i = omega arith in
       let rest : Agree (not z) i (words l) (words m) =
       rw (turn-turn (words l), turn-turn (words m)) at (agree-turn z i (turn (words l)) (turn (words m)) f) in
-      rw (whole, one) (close-next a i ha D (valueOf l) (valueOf m) (again i rest))
+      rw (whole, one) (close-next a i (p .0) D (valueOf l) (valueOf m) (again i rest))
 
   close-words : Agree z k (words (a ∷ l)) (words (b ∷ m)) → Close k D (valueOf (a ∷ l)) (valueOf (b ∷ m))
   close-words e = by-run (runs-meet z k (run a) (run b) _ _ (rw (words-first a l, words-first b m) at e))
     where
       by-run : RunsMeet z k (run a) (run b) (digitsAfterOne a ++ turn (words l)) (digitsAfterOne b ++ turn (words m))
           → Close k D (valueOf (a ∷ l)) (valueOf (b ∷ m))
-      by-run (RunsMeet.inside f g) =
-          close-far z k D (a ∷ l) (b ∷ m) (ha, p) (hb, q) (far-word z k a l ha p f) (far-word z k b m hb q g)
+      by-run (RunsMeet.inside f g) = close-far z k D (a ∷ l) (b ∷ m) p q (far-word z k a l p f) (far-word z k b m q g)
       by-run (RunsMeet.past g j n f) =
           past-run g j n (digits-meet z j (digitsAfterOne a) (digitsAfterOne b) (turn (words l)) (turn (words m)) g f)
 
@@ -111,13 +113,13 @@ module _ (z : Bool) (a b : ℕ) (l m : List ℕ) (ha : 1 ≤ a) (hb : 1 ≤ b) (
 pub close : (z : Bool) (l m : List ℕ) → Quotients z l → Quotients z m → (k : ℕ) → Agree z k (words l) (words m)
     → (D : Denominators) → Close k D (valueOf l) (valueOf m)
 close true [] [] p q k e D = close-far true k D [] [] p q (far-none k) (far-none k)
-close true [] (b ∷ m) p (h, q) k e D =
-    close-far true k D [] (b ∷ m) p (h, q) (far-none k)
-    (far-word true k b m h q (ones-meet k (run b) _ (rw words-first at e)))
-close true (a ∷ l) [] (h, p) q k e D =
-    close-far true k D (a ∷ l) [] (h, p) q
-    (far-word true k a l h p (ones-meet k (run a) _ (λ i j. sym ((rw words-first at e) i j)))) (far-none k)
+close true [] (b ∷ m) p q k e D =
+    close-far true k D [] (b ∷ m) p q (far-none k)
+    (far-word true k b m q (ones-meet k (run b) _ (rw words-first at e)))
+close true (a ∷ l) [] p q k e D =
+    close-far true k D (a ∷ l) [] p q
+    (far-word true k a l p (ones-meet k (run a) _ (λ i j. sym ((rw words-first at e) i j)))) (far-none k)
 close false [] m p q k e D = absurd (false≢true p)
 close false (a ∷ l) [] p q k e D = absurd (false≢true q)
-close z (a ∷ l) (b ∷ m) (h, p) (i, q) k e D =
-    close-words z a b l m h i p q k D (λ j f. close (not z) l m p q j f (after a h D)) e
+close z (a ∷ l) (b ∷ m) p q k e D =
+    close-words z a b l m p q k D (λ j f. close (not z) l m (p .1) (q .1) j f (after a (p .0) D)) e

@@ -1,4 +1,4 @@
--- Cutting two strings to one width never changes their places, though they may become the same. What is cut never grows.
+-- Cutting two strings to one width never changes their places, though they may become the same; and no value grows.
 use mathlib.Core.Path.{_≡_, sym, _∙_}
 use mathlib.Core.Bool.{false, false≢true}
 use mathlib.Core.Logic.{_⊎_, inl, inr}
@@ -11,6 +11,7 @@ use lib.Seq.{getD-take}
 use Rattle.bits.specs.Strings.{Bits, Same, Agree, _≺_}
 use Rattle.bits.specs.Trim.{closed-same}
 use Rattle.families.specs.Families.{Family}
+use Rattle.fractions.specs.Lists.{Under}
 use Rattle.keys.specs.Keys.{cutTo, Canonical, valueOfKey}
 use Rattle.keys.specs.Back.{canonical-closed, canonical-same, not-canonical}
 use Rattle.keys.specs.Order.{value-order}
@@ -65,22 +66,24 @@ cut-canonical zero k h c = absurd (omega arith)
 cut-canonical (suc n) [] h c = absurd (not-canonical c)
 cut-canonical (suc n) (b ∷ s) h c = canonical-closed b (take n s)
 
--- the value of a key that is cut is never above that of the key
+-- the value a/b of a key that is cut is never above that of the key, p/q
 pub cut-low : (F : Family) (n : ℕ) (k : Bits) → 1 ≤ n → Canonical k
-    → (valueOfKey F (cutTo n k)) .num * (valueOfKey F k) .den ≤ (valueOfKey F k) .num * (valueOfKey F (cutTo n k)) .den
+    → let p/q = valueOfKey F k in
+    let a/b = valueOfKey F (cutTo n k) in
+    a/b .num * p/q .den ≤ p/q .num * a/b .den
 cut-low F n k h c =
-    by-size (decLt ((valueOfKey F k) .num * (valueOfKey F (cutTo n k)) .den) ((valueOfKey F (cutTo n k)) .num * (valueOfKey F k) .den))
-  where
-    by-size : Dec ((valueOfKey F k) .num * (valueOfKey F (cutTo n k)) .den < (valueOfKey F (cutTo n k)) .num * (valueOfKey F k) .den)
-        → (valueOfKey F (cutTo n k)) .num * (valueOfKey F k) .den ≤ (valueOfKey F k) .num * (valueOfKey F (cutTo n k)) .den
-    by-size (yes u) = absurd (cut-not-above n k ((value-order F k (cutTo n k) c (cut-canonical n k h c)) .1 u))
-    by-size (no u) = omega arith
+    let p/q = valueOfKey F k in
+    let a/b = valueOfKey F (cutTo n k) in
+    let above : ¬ Under p/q a/b =
+    λ u. cut-not-above n k ((value-order F k (cutTo n k) c (cut-canonical n k h c)) .1 u) in
+    omega (arith, above)
 
 -- keys in order are in order or equal once they are cut
 pub cut-places : (j k : Bits) (n : ℕ) → Canonical j → Canonical k → 1 ≤ n
     → j ≺ k → (cutTo n j ≺ cutTo n k) ⊎ (cutTo n j ≡ cutTo n k)
 cut-places j k n c d h l = by-cut (cut-keeps n j k l)
   where
-    by-cut : (cutTo n j ≺ cutTo n k) ⊎ Same false (cutTo n j) (cutTo n k) → (cutTo n j ≺ cutTo n k) ⊎ (cutTo n j ≡ cutTo n k)
+    by-cut : (cutTo n j ≺ cutTo n k) ⊎ Same false (cutTo n j) (cutTo n k)
+        → (cutTo n j ≺ cutTo n k) ⊎ (cutTo n j ≡ cutTo n k)
     by-cut (inl b) = inl b
     by-cut (inr s) = inr (canonical-same (cutTo n j) (cutTo n k) (cut-canonical n j h c) (cut-canonical n k h d) s)

@@ -1,5 +1,5 @@
--- Distance, 1983 words: a key of a value below 1, cut to n characters, has a value that is less than two thirds, taken n-1
--- times as a factor, away (001, section V: a bit divides what is left two parts to one at most).
+-- Distance, 1983 words: a key of a value below 1, cut to n characters, has a value that is less than two thirds, taken
+-- n-1 times as a factor, away (001, section V: a bit divides what is left two parts to one at most).
 use mathlib.Core.Path.{_≡_, sym, _∙_}
 use mathlib.Core.Bool.{true, false}
 use mathlib.Core.List.{List, [], _∷_}
@@ -25,7 +25,8 @@ abbrev quotientsAfter : Bits → List ℕ
 quotientsAfter s = read words1983 true (turn s)
 
 -- two keys that agree in n bits after a leading 0 have quotients that are spelled alike in n bits
-read-agree : (n : ℕ) (s t : Bits) → Agree false n s t → Agree true n (words (quotientsAfter s)) (words (quotientsAfter t))
+read-agree : (n : ℕ) (s t : Bits) → Agree false n s t
+    → Agree true n (words (quotientsAfter s)) (words (quotientsAfter t))
 read-agree n s t e i h =
     sym ((read-spells words1983 true (turn s)) .same i) ∙ agree-turn false n s t e i h
     ∙ (read-spells words1983 true (turn t)) .same i
@@ -37,7 +38,8 @@ start = record { before = 0; last = 1; rising = omega arith; positive = omega ar
 -- what is near from there on, in the words of the demand
 unscaled : (T P : ℕ) (x y : Ratio)
     → T * (1 * (1 + 0)) * apart x y < P * ((1 * x .num + 0 * x .den) * (1 * y .num + 0 * y .den))
-    → ((onto 0 y) .num * (onto 0 x) .den - (onto 0 x) .num * (onto 0 y) .den) * T < P * ((onto 0 y) .den * (onto 0 x) .den)
+    → ((onto 0 y) .num * (onto 0 x) .den - (onto 0 x) .num * (onto 0 y) .den) * T
+    < P * ((onto 0 y) .den * (onto 0 x) .den)
 unscaled T P x y h =
     let e : (onto 0 y) .num * (onto 0 x) .den - (onto 0 x) .num * (onto 0 y) .den ≡ apart x y = omega arith in
     rw e (omega (arith, mul-comm (apart x y) T))

@@ -10,7 +10,7 @@ use Rattle.bits.specs.Binary.{bytesOf}
 use Rattle.families.specs.Families.{Family, ended}
 use Rattle.fractions.specs.Fractions.{Ratio, valueOf, formOf}
 
--- the words of quotients, the first as it is and every second one turned: the rest is spelled and then turned as a whole
+-- the words of quotients, every second one turned: the word of the first, and the rest spelled and turned as a whole
 abbrev pub spelled : Family → List ℕ → Bits
 spelled F [] = []
 spelled F (a ∷ l) = F .word a ++ turn (spelled F l)
@@ -36,9 +36,9 @@ abbrev pub Canonical : Bits → Type 0
 Canonical k = (k ≡ false ∷ []) ⊎ ((s : Bits) × (k ≡ s ++ (true ∷ [])))
 
 -- Reading goes from word to word of the string extended by zeros. After each word the rest is turned, and so is the bit
--- that extends it, z. So a turned word is read as a word, with z = 1; and there it ends where only ones are left, that is
--- where only zeros remain of the key and a turned word should start. Each round takes a character or leaves z = 1 and
--- nothing, so twice the length and two more rounds are enough.
+-- z that extends it. So a turned word is read as a word, with z = 1, and there it ends where only ones are left: where
+-- only zeros remain of the key and a turned word should start. Each round takes a character or leaves none with z = 1,
+-- so twice the length and two rounds more are enough.
 unfoldable pub readFrom : Family → ℕ → Bool → Bits → List ℕ
 readFrom F zero z s = []
 readFrom F (suc f) z s =

@@ -59,7 +59,8 @@ apart-room false x y s t =
 pub near-far : (k : ℕ) (D : Denominators) (z : Bool) (x y : Ratio) → Spread z x → Spread z y → Far z k y → Near k D x y
 near-far k D z x y s t f =
     near-run z (3 ^ k) (2 ^ k) (D .before) (D .last) (x .num) (x .den) (y .num) (y .den) (apart x y)
-    (D .positive) (pow-pos k) (spread-positive z x s) (apart-room z x y s t) f (run-width k (D .before) (D .last) (D .rising))
+    (D .positive) (pow-pos k) (spread-positive z x s) (apart-room z x y s t) f
+    (run-width k (D .before) (D .last) (D .rising))
 
 -- x lies from A to A + H
 record Within (A H : ℕ) (x : Ratio) : Type 0 where
@@ -87,7 +88,8 @@ near-within : (k : ℕ) (D : Denominators) (A H : ℕ) (x y : Ratio)
 near-within k D A H x y w s t =
     let u = D .before in
     let v = D .last in
-    near-block (3 ^ k) (2 ^ k) (widest D) (A * v + u) ((A + H) * v + u) H v (seen D x) (seen D y) (x .den) (y .den) (apart x y)
+    near-block (3 ^ k) (2 ^ k) (widest D) (A * v + u) ((A + H) * v + u) H v
+    (seen D x) (seen D y) (x .den) (y .den) (apart x y)
     (D .positive) (pow-pos k) (seen-positive D x (s .positive)) (seen-positive D y (t .positive))
     (omega arith) w (omega (arith, mul-le-mul-left v (t .low))) (omega (arith, mul-le-mul-left v (s .high)))
     (λ h. seen-apart u v (x .num) (x .den) (y .num) (y .den) (apart x y) (omega arith))

@@ -48,7 +48,8 @@ module _ (F : Family) where
   spells-next z s a rest l h e r = record {
     quotients = (h, r .quotients);
     same = λ i. e i ∙ same-append z (F .word a) rest (turn (spelled F l))
-        (λ j. sym (same-drop z s (F .word a) rest e j) ∙ same-turned z (drop (length (F .word a)) s) (spelled F l) (r .same) j) i;
+        (λ j. sym (same-drop z s (F .word a) rest e j)
+        ∙ same-turned z (drop (length (F .word a)) s) (spelled F l) (r .same) j) i;
   }
 
   read-from-spells : (f : ℕ) (z : Bool) (s : Bits) → left z s ≤ f → Spells F z s (readFrom F f z s)

@@ -57,7 +57,8 @@ below-power n m h = by-size (decLt n m)
     by-size (no l) = let k : m ≤ n = omega arith in absurd (omega (arith, pow-mono k))
 
 module _ (F : Family) where
-  spelled-length : (a : ℕ) (l : List ℕ) → 2 ^ length (spelled F (a ∷ l)) ≡ 2 ^ length (F .word a) * 2 ^ length (spelled F l)
+  spelled-length : (a : ℕ) (l : List ℕ)
+      → 2 ^ length (spelled F (a ∷ l)) ≡ 2 ^ length (F .word a) * 2 ^ length (spelled F l)
   spelled-length a l = rw (length-append, length-map) (pow-add 2 (length (F .word a)) (length (spelled F l)))
 
   -- the words of two quotients or more, twice
@@ -67,11 +68,14 @@ module _ (F : Family) where
       rw (spelled-length a (b ∷ []), spelled-length b [])
       (omega (arith, room-two a b (2 ^ length (F .word a)) (2 ^ length (F .word b)) k (F .short a h) (F .short b k)))
   spelled-room z a b (c ∷ l) (h, q) =
+      let m = b ∷ c ∷ l in
+      let x = valueOf m in
+      let d : x .den ≤ x .num = spread-proper (not z) x (value-spread (not z) m q) in
       rw spelled-length
       (omega (
         arith,
-        room-more a ((valueOf (b ∷ c ∷ l)) .num) ((valueOf (b ∷ c ∷ l)) .den) (2 ^ length (F .word a)) (2 * 2 ^ length (spelled F (b ∷ c ∷ l)))
-            h (spread-proper (not z) (valueOf (b ∷ c ∷ l)) (value-spread (not z) (b ∷ c ∷ l) q)) (F .short a h) (spelled-room (not z) b c l q),
+        room-more a (x .num) (x .den) (2 ^ length (F .word a)) (2 * 2 ^ length (spelled F m))
+            h d (F .short a h) (spelled-room (not z) b c l q),
       ))
 
   spelled-fits : (z : Bool) (l : List ℕ) → Quotients z l → (valueOf l) .num ≤ limit → (valueOf l) .den ≤ limit
@@ -104,8 +108,10 @@ module _ (F : Family) where
   list-size : (l : List ℕ) → EvenEnded l → (valueOf l) .num ≤ limit → (valueOf l) .den ≤ limit
       → (length (written F l) ≤ 96) × (countOf l ≤ 46)
   list-size [] e n d = absurd (false≢true e)
-  list-size (zero ∷ l) q n d =
-      (omega (arith, length-map (spelled F l) not, spelled-fits true l q (omega arith) (omega arith)), few true l q (omega arith))
+  list-size (zero ∷ l) q n d = (
+    omega (arith, length-map (spelled F l) not, spelled-fits true l q (omega arith) (omega arith)),
+    few true l q (omega arith),
+  )
   list-size (suc a ∷ l) q n d =
       let whole : Quotients false (suc a ∷ l) = (omega arith, q) in
       (spelled-fits false (suc a ∷ l) whole n d, few false (suc a ∷ l) whole n)

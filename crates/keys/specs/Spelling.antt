@@ -6,7 +6,8 @@ use mathlib.Core.List.{List, [], _∷_, _++_}
 use Prim.Native.Nat.{ℕ, zero, suc}
 use native.Mathlib.Omega.{arith}
 use Rattle.bits.specs.Strings.{Bits, turn, Same, Before, _≺_}
-use Rattle.bits.specs.Order.{not-not, before-first, before-cons, before-append, before-turn, before-same, before-not-same}
+use Rattle.bits.specs.Order.{not-not, before-first, before-cons, before-append, before-turn}
+use Rattle.bits.specs.Order.{before-same, before-not-same}
 use Rattle.families.specs.Families.{Below, here, there, Family}
 use Rattle.fractions.specs.Fractions.{Quotients, EvenEnded}
 use Rattle.fractions.specs.Lists.{Less, smaller, reversed, finite, Compared, compared}
@@ -37,7 +38,8 @@ module _ (F : Family) where
   spelled-order z (reversed a {l = l} {m = m} h) (j, s) (k, t) =
       before-append z (F .word a) (turn (spelled F l)) (turn (spelled F m))
       (rw not-not at (before-turn (not z) (spelled F m) (spelled F l) (spelled-order (not z) h t s)))
-  spelled-order true (finite {a = a} {l = l}) (k, s) t = below-ones (turn (spelled F l)) (F .rising a (suc a) k (omega arith))
+  spelled-order true (finite {a = a} {l = l}) (k, s) t =
+      below-ones (turn (spelled F l)) (F .rising a (suc a) k (omega arith))
   spelled-order false finite s t = absurd (false≢true t)
 
   pub written-order : (l m : List ℕ) → EvenEnded l → EvenEnded m → Less l m → written F l ≺ written F m

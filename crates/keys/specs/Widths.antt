@@ -4,7 +4,9 @@ use mathlib.Core.Path.{_≡_, ap}
 use mathlib.Core.Bool.{Bool, true, false, cond}
 use mathlib.Core.Logic.{_⊎_, inl, inr}
 use Prim.Native.Nat.{ℕ, zero, suc, _+_, _*_, _^_, _≤_, _<_}
-use native.Mathlib.Nat.{pow-suc, add-suc, add-zero, eq-zero-or-pos, mul-pos, mul-le-mul-left, mul-le-mul-right, mul-le-mul, mul-lt-mul-of-pos-left, mul-lt-mul-of-pos-right, le-of-mul-le-mul-left, lt-of-mul-lt-mul-left, lt-of-lt-of-le}
+use native.Mathlib.Nat.{pow-suc, add-suc, add-zero, eq-zero-or-pos, lt-of-lt-of-le, mul-pos}
+use native.Mathlib.Nat.{mul-le-mul, mul-le-mul-left, mul-le-mul-right, mul-lt-mul-of-pos-left, mul-lt-mul-of-pos-right}
+use native.Mathlib.Nat.{le-of-mul-le-mul-left, lt-of-mul-lt-mul-left}
 use native.Mathlib.Omega.{arith}
 use lib.Pow.{pow-pos}
 
@@ -44,7 +46,8 @@ digit-width (suc j) r H u v h k e =
     (omega (arith, mul-le-mul-left (2 * H) (pow-pos j))) (digit-width j r (2 * H) u v h k q))
 
 -- two values in reach of a run, n/d and n′/d′, where n′/d′ is at least Y: either it is above Y, or neither is infinite
-far-apart : (z : Bool) (Y u v n d n′ d′ x : ℕ) → 1 ≤ v → 1 ≤ Y → 1 ≤ n → x + cond z 0 1 ≤ n * d′ → Y * d′ + cond z 1 0 ≤ n′
+far-apart : (z : Bool) (Y u v n d n′ d′ x : ℕ) → 1 ≤ v → 1 ≤ Y → 1 ≤ n
+    → x + cond z 0 1 ≤ n * d′ → Y * d′ + cond z 1 0 ≤ n′
     → (Y * v + u) * (v * x) < (v * n + u * d) * (v * n′ + u * d′)
 far-apart true Y u v n d n′ d′ x h k i a b =
     let f : Y * d′ < n′ = omega arith in
@@ -56,7 +59,8 @@ far-apart false Y u v n d n′ d′ x h k i a b =
     let w : 0 < Y * v + u = omega (arith, mul-pos k h) in
     omega (arith, mul-lt-mul-of-pos-left e (mul-pos w h), mul-le-mul-left (v * n * v) f)
 
-pub near-run : (z : Bool) (T Y u v n d n′ d′ x : ℕ) → 1 ≤ v → 1 ≤ Y → 1 ≤ n → x + cond z 0 1 ≤ n * d′ → Y * d′ + cond z 1 0 ≤ n′
+pub near-run : (z : Bool) (T Y u v n d n′ d′ x : ℕ) → 1 ≤ v → 1 ≤ Y → 1 ≤ n
+    → x + cond z 0 1 ≤ n * d′ → Y * d′ + cond z 1 0 ≤ n′
     → T * (v + u) ≤ Y * (Y * v + u) → T * (v * (v + u)) * x < Y * ((v * n + u * d) * (v * n′ + u * d′))
 near-run z T Y u v n d n′ d′ x h k i a b w =
     omega (arith, mul-le-mul-right (v * x) w, mul-lt-mul-of-pos-left (far-apart z Y u v n d n′ d′ x h k i a b) k)
@@ -74,15 +78,16 @@ block-apart A B H v Q Q′ D D′ x k b low high e =
       ap (λ (y : ℕ). y * (Q * Q′)) b,
     )) k
 
-pub near-block : (T P W A B H v Q Q′ D D′ x : ℕ) → 1 ≤ v → 1 ≤ P → 1 ≤ Q → 1 ≤ Q′ → B ≡ A + H * v → T * W * H < P * (A * B)
-    → A * D′ ≤ Q′ → Q ≤ B * D → (0 < x → Q * D′ ≡ Q′ * D + v * x) → T * W * x < P * (Q * Q′)
+pub near-block : (T P W A B H v Q Q′ D D′ x : ℕ) → 1 ≤ v → 1 ≤ P → 1 ≤ Q → 1 ≤ Q′
+    → B ≡ A + H * v → T * W * H < P * (A * B) → A * D′ ≤ Q′ → Q ≤ B * D → (0 < x → Q * D′ ≡ Q′ * D + v * x)
+    → T * W * x < P * (Q * Q′)
 near-block T P W A B H v Q Q′ D D′ x k h i j b w low high e = by-size (eq-zero-or-pos x)
   where
     by-size : (x ≡ 0) ⊎ (0 < x) → T * W * x < P * (Q * Q′)
     by-size (inl o) = rw o (omega (arith, mul-pos h (mul-pos i j)))
     by-size (inr o) =
-        lt-of-mul-lt-mul-left H
-        (omega (arith, mul-lt-mul-of-pos-right w o, mul-le-mul-left P (block-apart A B H v Q Q′ D D′ x k b low high (e o))))
+        let near : A * B * x ≤ H * (Q * Q′) = block-apart A B H v Q Q′ D D′ x k b low high (e o) in
+        lt-of-mul-lt-mul-left H (omega (arith, mul-lt-mul-of-pos-right w o, mul-le-mul-left P near))
 
 -- what n/d is above n′/d′, seen as Q/D and Q′/D′
 pub seen-apart : (u v n d n′ d′ x : ℕ) → n * d′ ≡ n′ * d + x → (v * n + u * d) * d′ ≡ (v * n′ + u * d′) * d + v * x
@@ -93,7 +98,9 @@ pub near-on : (t p T P W X x R : ℕ) → 1 ≤ p → t * W * 1 < p * X → T * 
 near-on t p T P W X x R h w e =
     let k : t * W ≤ p * X = omega arith in omega (arith, mul-le-mul-left (T * x) k, mul-lt-mul-of-pos-left e h)
 
-pub wider : (M P Y A H u v : ℕ) → Y ≤ A → M < P * ((Y * v + u) * ((Y + H) * v + u)) → M < P * ((A * v + u) * ((A + H) * v + u))
+-- what is below the product at Y is below it at A
+pub wider : (M P Y A H u v : ℕ) → Y ≤ A → M < P * ((Y * v + u) * ((Y + H) * v + u))
+    → M < P * ((A * v + u) * ((A + H) * v + u))
 wider M P Y A H u v h m =
     let w : Y * v ≤ A * v = mul-le-mul-right v h in
     let c : Y * v + u ≤ A * v + u = omega arith in
