@@ -59,13 +59,19 @@ before-turn z s t h = record {
   high = List·getD-map not s (h .place) z ∙ ap not (h .low);
 }
 
-pub before-same : (z : Bool) (s s′ t t′ : Bits) → Same z s s′ → Same z t t′ → Before z s t → Before z s′ t′
-before-same z s s′ t t′ e f h = record {
+-- where strings differ within n bits, others that agree with them in n bits differ alike
+pub before-agree : (z : Bool) (n : ℕ) (s s′ t t′ : Bits) → Agree z n s s′ → Agree z n t t′
+    → (h : Before z s t) → h .place < n → Before z s′ t′
+before-agree z n s s′ t t′ e f h l = record {
   place = h .place;
-  agree = λ i l. sym (e i) ∙ h .agree i l ∙ f i;
-  low = sym (e (h .place)) ∙ h .low;
-  high = sym (f (h .place)) ∙ h .high;
+  agree = λ i k. sym (e i (omega arith)) ∙ h .agree i k ∙ f i (omega arith);
+  low = sym (e (h .place) l) ∙ h .low;
+  high = sym (f (h .place) l) ∙ h .high;
 }
+
+pub before-same : (z : Bool) (s s′ t t′ : Bits) → Same z s s′ → Same z t t′ → Before z s t → Before z s′ t′
+before-same z s s′ t t′ e f h =
+    before-agree z (suc (h .place)) s s′ t t′ (λ i l. e i) (λ i l. f i) h (omega arith)
 
 pub before-not-same : (z : Bool) (s t : Bits) → Before z s t → Same z s t → ⊥
 before-not-same z s t h e = false≢true (sym (h .low) ∙ e (h .place) ∙ h .high)

@@ -1,4 +1,4 @@
--- The continued fractions that 001 prints for 19/44 come out by running the definitions.
+-- The continued fractions that 001 prints for 19/44, and lowest terms, come out by running the definitions.
 use mathlib.Core.Path.{_≡_, refl}
 use mathlib.Core.List.{[], _∷_}
 use Rattle.fractions.specs.Fractions.{_over_, valueOf, dividedFrom, usual, gcd, lowestTerms, formOf}
@@ -17,3 +17,7 @@ value-example = refl
 lowest-example : lowestTerms 314 100 ≡ 157 over 50
 unfolding lowestTerms gcd dividedFrom
 lowest-example = refl
+
+zero-example : lowestTerms 0 5 ≡ 0 over 1
+unfolding lowestTerms gcd dividedFrom
+zero-example = refl

@@ -1,5 +1,6 @@
 -- What 001 and the scope print of keys, beside the table of whole keys, comes out by running the definitions.
 use mathlib.Core.Path.{_≡_, refl}
+use mathlib.Core.Bool.{true}
 use mathlib.Core.List.{[], _∷_, map}
 use lib.ListN.{replicate}
 use Rattle.bits.specs.Strings.{bitsOf}
@@ -41,3 +42,18 @@ cut-example = refl
 cut-value-example : valueOfKey words1983 (bitsOf "0001") ≡ 1 over 8
 unfolding read readFrom wordOf digitsAfterOne digitsFrom firstNumber bitsOf
 cut-value-example = refl
+
+-- 46 quotients, the most for 32 bits
+count-most : countOf (formOf 1836311903 2971215073) ≡ 46
+unfolding formOf usual dividedFrom
+count-most = refl
+
+-- 32 ones
+ones-example : valueOfKey words1983 (replicate 32 true) ≡ 2147483648 over 1
+unfolding read readFrom wordOf digitsAfterOne digitsFrom firstNumber
+ones-example = refl
+
+-- a key cut out of the range of 32 bits
+range-example : cutTo 33 (keyOf words1983 1 4294967295) ≡ keyOf words1983 1 4294967296
+unfolding keyOf formOf usual dividedFrom wordOf digitsAfterOne digitsFrom
+range-example = refl

@@ -69,6 +69,7 @@ module _ (F : Family) where
       k : Bits
       k = closed (written F l)
 
+  -- reading gives lowest terms
   pub key-value : (p q : ℕ) → 1 ≤ q → valueOfKey F (keyOf F p q) ≡ lowestTerms p q
   key-value p q h = ap valueOf (key-quotients p q h) ∙ form-value p q h
 
@@ -88,6 +89,7 @@ module _ (F : Family) where
       even-ended-unique (formOf n m) l (form-even-ended n m d) h
       (sym (scaled-cross (gcd n m) n m (valueOf (formOf n m)) (form-scaled n m d)))
 
+  -- writing what a canonical key reads as gives that key
   pub value-key : (k : Bits) (p q : ℕ) → Canonical k → valueOfKey F k ≡ p over q → keyOf F p q ≡ k
   unfolding keyOf
   value-key k p q c v =

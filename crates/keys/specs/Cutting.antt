@@ -9,6 +9,7 @@ use native.Mathlib.Decide.{decLt}
 use lib.ListN.{getD, take, length-take, List·getD-eq-default}
 use lib.Seq.{getD-take}
 use Rattle.bits.specs.Strings.{Bits, Same, Agree, _≺_}
+use Rattle.bits.specs.Order.{before-agree}
 use Rattle.bits.specs.Trim.{closed-same}
 use Rattle.families.specs.Families.{Family}
 use Rattle.fractions.specs.Lists.{Under}
@@ -16,6 +17,7 @@ use Rattle.keys.specs.Keys.{cutTo, Canonical, valueOfKey}
 use Rattle.keys.specs.Back.{canonical-closed, canonical-same, not-canonical}
 use Rattle.keys.specs.Order.{value-order}
 
+-- the first n bits stay
 pub cut-agree : (n : ℕ) (s : Bits) → Agree false n (cutTo n s) s
 cut-agree n s i h = closed-same (take n s) i ∙ getD-take n s i false h
 
@@ -29,12 +31,7 @@ pub cut-order : (n : ℕ) (s t : Bits) → cutTo n s ≺ cutTo n t → s ≺ t
 cut-order n s t h = by-place (decLt (h .place) n)
   where
     by-place : Dec (h .place < n) → s ≺ t
-    by-place (yes l) = record {
-      place = h .place;
-      agree = λ i k. sym (cut-agree n s i (omega arith)) ∙ h .agree i k ∙ cut-agree n t i (omega arith);
-      low = sym (cut-agree n s (h .place) l) ∙ h .low;
-      high = sym (cut-agree n t (h .place) l) ∙ h .high;
-    }
+    by-place (yes l) = before-agree false n (cutTo n s) s (cutTo n t) t (cut-agree n s) (cut-agree n t) h l
     by-place (no l) = absurd (false≢true (sym (cut-zeros n (h .place) t (omega arith)) ∙ h .high))
 
 -- strings in order are in order or the same once they are cut
@@ -42,18 +39,16 @@ pub cut-keeps : (n : ℕ) (s t : Bits) → s ≺ t → (cutTo n s ≺ cutTo n t)
 cut-keeps n s t h = by-place (decLt (h .place) n)
   where
     by-place : Dec (h .place < n) → (cutTo n s ≺ cutTo n t) ⊎ Same false (cutTo n s) (cutTo n t)
-    by-place (yes l) = inl (record {
-      place = h .place;
-      agree = λ i k. cut-agree n s i (omega arith) ∙ h .agree i k ∙ sym (cut-agree n t i (omega arith));
-      low = cut-agree n s (h .place) l ∙ h .low;
-      high = cut-agree n t (h .place) l ∙ h .high;
-    })
+    by-place (yes l) =
+        inl (before-agree false n s (cutTo n s) t (cutTo n t)
+        (λ i k. sym (cut-agree n s i k)) (λ i k. sym (cut-agree n t i k)) h l)
     by-place (no l) = inr (λ i. by-index i (decLt i n))
       where
         by-index : (i : ℕ) → Dec (i < n) → getD (cutTo n s) i false ≡ getD (cutTo n t) i false
         by-index i (yes k) = cut-agree n s i k ∙ h .agree i (omega arith) ∙ sym (cut-agree n t i k)
         by-index i (no k) = cut-zeros n i s (omega arith) ∙ sym (cut-zeros n i t (omega arith))
 
+-- what is cut doesn't grow
 cut-not-above : (n : ℕ) (s : Bits) → s ≺ cutTo n s → ⊥
 cut-not-above n s h = by-place (decLt (h .place) n)
   where

@@ -13,6 +13,7 @@ use Rattle.fractions.specs.Fractions.{Quotients, EvenEnded}
 use Rattle.fractions.specs.Lists.{quotients-form}
 use Rattle.keys.specs.Keys.{spelled, written, readFrom, read, quotientsOf}
 
+-- a word has a character
 below-length : {s t : Bits} → Below s t → 1 ≤ length s
 below-length here = omega arith
 below-length (there b h) = omega arith
@@ -33,7 +34,7 @@ left-falls f true [] w e k h = absurd (true≢false e)
 left-falls f true (b ∷ s) w e k h = rw (length-map, length-drop) (omega arith)
 left-falls f false s w e k h = rw (length-map, length-drop) (omega arith)
 
--- l is what z and s spell
+-- l is what s, going on with z, spells
 pub record Spells (F : Family) (z : Bool) (s : Bits) (l : List ℕ) : Type 0 where
   pub quotients : Quotients z l
   pub same : Same z s (spelled F l)

@@ -18,6 +18,7 @@ below-before : (z : Bool) {s t : Bits} (x y : Bits) → Below s t → Before z (
 below-before z x y (here {s = s} {t = t}) = before-first z (false ∷ (s ++ x)) (true ∷ (t ++ y)) refl refl
 below-before z x y (there b {s = s} {t = t} h) = before-cons z b (s ++ x) (t ++ y) (below-before z x y h)
 
+-- a string of ones that goes on with ones
 same-one : Same true (true ∷ []) []
 same-one zero = refl
 same-one (suc i) = refl
@@ -31,6 +32,7 @@ below-ones x (there true {s = s} h) =
     (before-cons true true (s ++ x) [] (below-ones x h))
 
 module _ (F : Family) where
+  -- lists stand as their words do; the first is a word (false), or a turned one in a string that is turned back (true)
   spelled-order : (z : Bool) {l m : List ℕ} → Less l m → Quotients z l → Quotients z m
       → Before z (spelled F l) (spelled F m)
   spelled-order z (smaller {a = a} {b = b} {l = l} {m = m} h) (k, s) t =
@@ -42,6 +44,7 @@ module _ (F : Family) where
       below-ones (turn (spelled F l)) (F .rising a (suc a) k (omega arith))
   spelled-order false finite s t = absurd (false≢true t)
 
+  -- and so do even-ended forms and what is written for them
   pub written-order : (l m : List ℕ) → EvenEnded l → EvenEnded m → Less l m → written F l ≺ written F m
   written-order (zero ∷ l) (zero ∷ m) s t (smaller h) = absurd (omega arith)
   written-order (zero ∷ l) (zero ∷ m) s t (reversed _ h) =
