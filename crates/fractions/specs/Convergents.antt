@@ -7,6 +7,7 @@ use Prim.Native.Nat.{ℕ, _+_, _*_, _≤_}
 use native.Mathlib.Nat.{mul-le-mul-left}
 use native.Mathlib.Omega.{arith}
 use Rattle.fractions.specs.Fractions.{Ratio, _over_, valueOf, Quotients}
+use Rattle.fractions.specs.Euclid.{same-ratio}
 use Rattle.fractions.specs.Lists.{value-spread, spread-positive}
 
 -- the convergent after u and, before that, v
@@ -21,10 +22,6 @@ forward u v (a ∷ l) = forward (convergent a u v) u l
 -- the value w of what is still to come, seen from u and v
 abbrev seenFrom : Ratio → Ratio → Ratio → Ratio
 seenFrom u v w = (u .num * w .num + v .num * w .den) over (u .den * w .num + v .den * w .den)
-
--- ratios whose numbers are equal
-same-ratio : {n m d e : ℕ} → n ≡ m → d ≡ e → n over d ≡ m over e
-same-ratio p q = λ i. p i over q i
 
 pub forward-seen : (l : List ℕ) (u v : Ratio) → forward u v l ≡ seenFrom u v (valueOf l)
 forward-seen [] u v = same-ratio (omega arith) (omega arith)

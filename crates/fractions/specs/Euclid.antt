@@ -6,8 +6,12 @@ use Prim.Native.Nat.{ℕ, zero, suc, _+_, _*_, _-_, _/_, _%_, _≤_, _<_}
 use native.Mathlib.Nat.{div-add-mod', div-eq-of-lt-le, mod-lt, le-div-iff-mul-le, mul-div-right, mul-sub}
 use native.Mathlib.Nat.{eq-one-of-dvd-one}
 use native.Mathlib.Omega.{arith}
-use Rattle.fractions.specs.Fractions.{Ratio, onto, valueOf, Divided, led, dividedFrom, usual, gcd, lowestTerms}
-use Rattle.fractions.specs.Fractions.{evenEnded, formOf}
+use Rattle.fractions.specs.Fractions.{Ratio, _over_, onto, valueOf, Divided, led, dividedFrom, usual, gcd}
+use Rattle.fractions.specs.Fractions.{lowestTerms, evenEnded, formOf}
+
+-- ratios whose numbers are equal
+pub same-ratio : {n m d e : ℕ} → n ≡ m → d ≡ e → n over d ≡ m over e
+same-ratio p q = λ i. p i over q i
 
 pub quotient-unique : (x b q r : ℕ) → x ≡ b * q + r → r < q → (x / q ≡ b) × (x % q ≡ r)
 quotient-unique x b q r e h = (d, omega (arith, div-add-mod' x q, ap (λ (y : ℕ). y * q) d))
@@ -83,10 +87,9 @@ usual-scaled p q h = divided-scaled q p q (omega arith) (omega arith)
 
 scaled-lowest : (p q : ℕ) (v : Ratio) → Scaled (gcd p q) p q v → v ≡ lowestTerms p q
 unfolding lowestTerms
-scaled-lowest p q v s = λ i. record {
-  num = (sym (mul-div-right (v .num) (s .positive)) ∙ ap (λ (x : ℕ). x / gcd p q) (sym (s .above))) i;
-  den = (sym (mul-div-right (v .den) (s .positive)) ∙ ap (λ (x : ℕ). x / gcd p q) (sym (s .below))) i;
-}
+scaled-lowest p q v s =
+    same-ratio (sym (mul-div-right (v .num) (s .positive)) ∙ ap (λ (x : ℕ). x / gcd p q) (sym (s .above)))
+    (sym (mul-div-right (v .den) (s .positive)) ∙ ap (λ (x : ℕ). x / gcd p q) (sym (s .below)))
 
 pub usual-value : (p q : ℕ) → 1 ≤ q → valueOf (usual p q) ≡ lowestTerms p q
 usual-value p q h = scaled-lowest p q (valueOf (usual p q)) (usual-scaled p q h)
@@ -105,12 +108,11 @@ quotients-positive (suc f) p (suc q) h = (
   quotients-positive f (suc q) (p % suc q) (mod-lt p (omega arith)),
 )
 
-split-last : (b : ℕ) → 1 ≤ b → valueOf ((b - 1) ∷ 1 ∷ []) ≡ valueOf (b ∷ [])
-split-last b h = let e : (b - 1) * 1 + 1 ≡ b * 1 + 0 = omega arith in λ i. record { num = e i; den = 1 }
-
 even-ended-same : (a : ℕ) (l : List ℕ) → Positive l → valueOf (evenEnded (a ∷ l)) ≡ valueOf (a ∷ l)
 even-ended-same a [] h = refl
-even-ended-same a (b ∷ []) (h, t) = ap (onto a) (split-last b h)
+even-ended-same a (b ∷ []) (h, t) =
+    let e : b - 1 + 1 ≡ b = omega arith in
+    same-ratio (omega (arith, ap (λ (x : ℕ). a * x) e)) (omega arith)
 even-ended-same a (b ∷ c ∷ l) (h, (k, t)) = ap (λ (v : Ratio). onto a (onto b v)) (even-ended-same c l t)
 
 pub form-value : (p q : ℕ) → 1 ≤ q → valueOf (formOf p q) ≡ lowestTerms p q

@@ -17,14 +17,14 @@ use Rattle.keys.specs.Keys.{cutTo, Canonical, valueOfKey}
 use Rattle.keys.specs.Back.{canonical-closed, canonical-same, not-canonical}
 use Rattle.keys.specs.Order.{value-order}
 
--- the first n bits stay
-pub cut-agree : (n : ℕ) (s : Bits) → Agree false n (cutTo n s) s
-cut-agree n s i h = closed-same (take n s) i ∙ getD-take n s i false h
-
 -- past the cut only zeros follow
 cut-zeros : (n i : ℕ) (s : Bits) → n ≤ i → getD (cutTo n s) i false ≡ false
 cut-zeros n i s h =
     closed-same (take n s) i ∙ List·getD-eq-default (take n s) false {n = i} (rw length-take (omega arith))
+
+-- the first n bits stay
+pub cut-agree : (n : ℕ) (s : Bits) → Agree false n (cutTo n s) s
+cut-agree n s i h = closed-same (take n s) i ∙ getD-take n s i false h
 
 -- strings that stand in order once they are cut stood so before
 pub cut-order : (n : ℕ) (s t : Bits) → cutTo n s ≺ cutTo n t → s ≺ t

@@ -78,18 +78,12 @@ module _ (F : Family) where
   read-spells true s = read-from-spells (2 * length s + 2) true s (omega arith)
   read-spells false s = read-from-spells (2 * length s + 2) false s (omega arith)
 
-  -- the quotients of a key are in even-ended form
-  pub quotients-even-ended : (k : Bits) → EvenEnded (quotientsOf F k)
-  quotients-even-ended [] = refl
-  quotients-even-ended (true ∷ s) = quotients-form false (read F false s) ((read-spells false s) .quotients)
-  quotients-even-ended (false ∷ s) = (read-spells true (turn s)) .quotients
-
   written-from-one : (l : List ℕ) → Quotients false l → written F l ≡ true ∷ spelled F l
   written-from-one [] h = absurd (false≢true h)
   written-from-one (zero ∷ l) (h, t) = absurd (omega arith)
   written-from-one (suc a ∷ l) h = refl
 
-  -- and are written as that key
+  -- the quotients of a key are written as that key
   pub written-same : (k : Bits) → Same false k (written F (quotientsOf F k))
   written-same [] = same-trimmed (false ∷ [])
   written-same (true ∷ s) =
@@ -98,3 +92,9 @@ module _ (F : Family) where
   written-same (false ∷ s) =
       same-append false (false ∷ []) s (turn (spelled F (read F true (turn s))))
       (same-turned false s (spelled F (read F true (turn s))) ((read-spells true (turn s)) .same))
+
+  -- and are in even-ended form
+  pub quotients-even-ended : (k : Bits) → EvenEnded (quotientsOf F k)
+  quotients-even-ended [] = refl
+  quotients-even-ended (true ∷ s) = quotients-form false (read F false s) ((read-spells false s) .quotients)
+  quotients-even-ended (false ∷ s) = (read-spells true (turn s)) .quotients

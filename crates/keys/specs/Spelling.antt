@@ -35,8 +35,7 @@ module _ (F : Family) where
   -- lists stand as their words do; the first is a word (false), or a turned one in a string that is turned back (true)
   spelled-order : (z : Bool) {l m : List ℕ} → Less l m → Quotients z l → Quotients z m
       → Before z (spelled F l) (spelled F m)
-  spelled-order z (smaller {a = a} {b = b} {l = l} {m = m} h) (k, s) t =
-      below-before z (turn (spelled F l)) (turn (spelled F m)) (F .rising a b k h)
+  spelled-order z (smaller {a = a} {b = b} h) (k, s) t = below-before z _ _ (F .rising a b k h)
   spelled-order z (reversed a {l = l} {m = m} h) (j, s) (k, t) =
       before-append z (F .word a) (turn (spelled F l)) (turn (spelled F m))
       (rw not-not at (before-turn (not z) (spelled F m) (spelled F l) (spelled-order (not z) h t s)))
