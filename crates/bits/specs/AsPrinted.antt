@@ -13,6 +13,5 @@ order-example =
 order-example-shorter : bitsOf "1101001001110111" ≺ bitsOf "110100101"
 unfolding bitsOf
 order-example-shorter =
-    before-append false (bitsOf "1101001") (bitsOf "001110111") (bitsOf "01")
-    (before-append false (bitsOf "0") (bitsOf "01110111") (bitsOf "1")
-    (before-first false (bitsOf "01110111") (bitsOf "1") refl refl))
+    before-append false (bitsOf "11010010") (bitsOf "01110111") (bitsOf "1")
+    (before-first false (bitsOf "01110111") (bitsOf "1") refl refl)

@@ -1,6 +1,6 @@
 -- Laws of sameness and of the order: both go through a common front, and turning keeps the one and reverses the other.
 use mathlib.Core.Path.{_≡_, refl, sym, _∙_, ap}
-use mathlib.Core.Bool.{Bool, true, false, not, false≢true}
+use mathlib.Core.Bool.{Bool, true, false, not, false≢true, Bool·not-not}
 use mathlib.Core.List.{[], _∷_, _++_}
 use Prim.Native.Nat.{ℕ, zero, suc, _+_, _<_}
 use native.Mathlib.Nat.{le-of-suc-le-suc}
@@ -8,15 +8,11 @@ use native.Mathlib.Omega.{arith}
 use native.Mathlib.Decide.{decLt}
 use lib.ListN.{getD, length, drop, List·getD-map}
 use lib.Seq.{getD-append-add, getD-drop}
-use Rattle.bits.specs.Strings.{Bits, turn, Same, Agree, Before}
-
-pub not-not : (b : Bool) → not (not b) ≡ b
-not-not true = refl
-not-not false = refl
+use Rattle.bits.specs.Strings.{Bits, turn, Same, Agree, allOnes, Before}
 
 pub turn-turn : (s : Bits) → turn (turn s) ≡ s
 turn-turn [] = refl
-turn-turn (b ∷ s) = λ i. not-not b i ∷ turn-turn s i
+turn-turn (b ∷ s) = λ i. Bool·not-not b i ∷ turn-turn s i
 
 pub agree-turn : (z : Bool) (n : ℕ) (s t : Bits) → Agree z n s t → Agree (not z) n (turn s) (turn t)
 agree-turn z n s t e i h = List·getD-map not s i z ∙ ap not (e i h) ∙ sym (List·getD-map not t i z)
@@ -24,9 +20,15 @@ agree-turn z n s t e i h = List·getD-map not s i z ∙ ap not (e i h) ∙ sym (
 pub same-turn : (z : Bool) (s t : Bits) → Same z s t → Same (not z) (turn s) (turn t)
 same-turn z s t e i = agree-turn z (suc i) s t (λ j h. e j) i (omega arith)
 
--- and back again
 pub same-turned : (z : Bool) (s t : Bits) → Same (not z) (turn s) t → Same z s (turn t)
-same-turned z s t e = rw (not-not, turn-turn) at (same-turn (not z) (turn s) t e)
+same-turned z s t e = rw (Bool·not-not, turn-turn) at (same-turn (not z) (turn s) t e)
+
+-- a string of ones that goes on with ones is nothing that does
+pub same-ones : (s : Bits) → allOnes s ≡ true → Same true s []
+same-ones [] e i = refl
+same-ones (true ∷ s) e zero = refl
+same-ones (true ∷ s) e (suc i) = same-ones s e i
+same-ones (false ∷ s) e i = absurd (false≢true e)
 
 pub same-append : (z : Bool) (w s t : Bits) → Same z s t → Same z (w ++ s) (w ++ t)
 same-append z [] s t e i = e i

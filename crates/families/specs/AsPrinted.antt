@@ -1,7 +1,8 @@
--- Table 1 of 001 comes out by running the words, both ways, and so does the word that section II takes apart, of 27.
+-- Table 1 of 001 comes out by running the words, both ways; so does the string that section III puts together of the
+-- words of 27, 6, 4, 13 and 2, the first of which section II takes apart.
 use mathlib.Core.Path.{_≡_, refl}
 use mathlib.Core.Bool.{false}
-use mathlib.Core.List.{List, [], _∷_, map}
+use mathlib.Core.List.{List, [], _∷_, _++_, map}
 use Prim.Native.Nat.{ℕ, zero, suc}
 use Prim.Native.String.{String}
 use Rattle.bits.specs.Strings.{bitsOf}
@@ -27,6 +28,10 @@ table-numbers : map (firstNumber false) (map bitsOf table1) ≡ counted 20 1
 unfolding table1 counted bitsOf firstNumber
 table-numbers = refl
 
-word-example : wordOf 27 ≡ bitsOf "111101011"
+sequence-example : wordOf 27 ++ wordOf 6 ++ wordOf 4 ++ wordOf 13 ++ wordOf 2 ≡ bitsOf "11110101111010110001110101100"
 unfolding bitsOf wordOf digitsAfterOne digitsFrom
-word-example = refl
+sequence-example = refl
+
+first-example : firstNumber false (bitsOf "11110101111010110001110101100") ≡ 27
+unfolding bitsOf firstNumber
+first-example = refl

@@ -22,7 +22,7 @@ pub record Family : Type 0 where
   pub rising : (i j : ℕ) → 1 ≤ i → i < j → Below (word i) (word j)
   -- the number whose word begins s, going on with z
   pub first : Bool → Bits → ℕ
-  -- complete: each infinite string that isn't all ones begins with a word
+  -- complete: s, going on with z, begins with a word, unless it is all ones
   pub complete : (z : Bool) (s : Bits) → ended z s ≡ false
       → (1 ≤ first z s) × ((rest : Bits) × Same z s (word (first z s) ++ rest))
   -- short enough for the limit of 96 characters

@@ -3,9 +3,10 @@
 use mathlib.Core.Path.{_≡_, refl, sym, _∙_, ap}
 use mathlib.Core.List.{List, [], _∷_}
 use Prim.Native.Nat.{ℕ, zero, suc, _+_, _*_, _-_, _/_, _%_, _≤_, _<_}
-use native.Mathlib.Nat.{div-add-mod', div-eq-of-lt-le, mod-lt, le-div-iff-mul-le, mul-div-right, mul-sub}
+use native.Mathlib.Nat.{div-add-mod', mod-lt, le-div-iff-mul-le, mul-div-right, mul-sub}
 use native.Mathlib.Nat.{eq-one-of-dvd-one}
 use native.Mathlib.Omega.{arith}
+use lib.Arith.{digits-div, digits-mod}
 use Rattle.fractions.specs.Fractions.{Ratio, _over_, onto, valueOf, Divided, led, dividedFrom, usual, gcd}
 use Rattle.fractions.specs.Fractions.{lowestTerms, evenEnded, formOf}
 
@@ -14,10 +15,7 @@ pub same-ratio : {n m d e : ℕ} → n ≡ m → d ≡ e → n over d ≡ m over
 same-ratio p q = λ i. p i over q i
 
 pub quotient-unique : (x b q r : ℕ) → x ≡ b * q + r → r < q → (x / q ≡ b) × (x % q ≡ r)
-quotient-unique x b q r e h = (d, omega (arith, div-add-mod' x q, ap (λ (y : ℕ). y * q) d))
-  where
-    d : x / q ≡ b
-    d = div-eq-of-lt-le q {m = x} (omega arith) (omega arith)
+quotient-unique x b q r e h = (rw e (digits-div b h), rw e (digits-mod b h))
 
 -- enough steps give the same
 divided-enough : (f g p q : ℕ) → q ≤ f → q ≤ g → dividedFrom f p q ≡ dividedFrom g p q

@@ -17,7 +17,7 @@ p over q = record { num = p; den = q }
 abbrev pub onto : ℕ → Ratio → Ratio
 onto a v = (a * v .num + v .den) over (v .num)
 
--- the value of the quotients a0, a1, .. : a0 + 1/(a1 + 1/(..)), where nothing stands for infinity
+-- the value of the quotients a0, a1, .. (section I): a0 + 1/(a1 + 1/(..)), where nothing stands for infinity
 abbrev pub valueOf : List ℕ → Ratio
 valueOf [] = 1 over 0
 valueOf (a ∷ l) = onto a (valueOf l)
@@ -37,7 +37,7 @@ dividedFrom zero p q = record { quotients = []; divisor = p }
 dividedFrom (suc f) p zero = record { quotients = []; divisor = p }
 dividedFrom (suc f) p (suc q) = led (p / suc q) (dividedFrom f (suc q) (p % suc q))
 
--- the usual continued fraction of p/q
+-- the usual continued fraction of p/q (section I)
 unfoldable pub usual : ℕ → ℕ → List ℕ
 usual p q = (dividedFrom q p q) .quotients
 
@@ -49,7 +49,7 @@ gcd p q = (dividedFrom q p q) .divisor
 unfoldable pub lowestTerms : ℕ → ℕ → Ratio
 lowestTerms p q = (p / gcd p q) over (q / gcd p q)
 
--- the form whose last index is even: a last quotient a at an odd index is written a-1, 1
+-- the form whose last index is even (section III, iii): a last quotient a at an odd index is written a-1, 1
 abbrev pub evenEnded : List ℕ → List ℕ
 evenEnded [] = []
 evenEnded (a ∷ []) = a ∷ []

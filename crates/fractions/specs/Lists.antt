@@ -10,11 +10,13 @@ use native.Mathlib.Omega.{arith}
 use native.Mathlib.Decide.{decLt}
 use Rattle.fractions.specs.Fractions.{Ratio, onto, valueOf, Quotients, Form, EvenEnded}
 
+-- l is below m: by the first quotient, or by the rest with the order turned round; what goes on is below infinity
 pub data Less : List ℕ → List ℕ → Type 0 where
   smaller : {a b : ℕ} {l m : List ℕ} → a < b → Less (a ∷ l) (b ∷ m)
   reversed : (a : ℕ) {l m : List ℕ} → Less m l → Less (a ∷ l) (a ∷ m)
   finite : {a : ℕ} {l : List ℕ} → Less (a ∷ l) []
 
+-- one of three
 abbrev pub Compared : List ℕ → List ℕ → Type 0
 Compared l m = Less l m ⊎ ((l ≡ m) ⊎ Less m l)
 
@@ -79,6 +81,7 @@ pub quotients-form : (z : Bool) (l : List ℕ) → Quotients z l → Form z l
 quotients-form z [] e = e
 quotients-form z (a ∷ l) h = h .1
 
+-- lists stand as their values do
 pub less-under : (z : Bool) {l m : List ℕ} → Less l m → Form z l → Form z m → Under (valueOf l) (valueOf m)
 less-under z (smaller {a = a} {b = b} {l = l} {m = m} h) s t =
     under-smaller (not z) a b (valueOf l) (valueOf m) h (value-spread (not z) l s) (value-spread (not z) m t)

@@ -12,16 +12,18 @@ use native.Mathlib.Omega.{arith}
 use Rattle.fractions.specs.Fractions.{usual, evenEnded, formOf, Quotients, EvenEnded}
 use Rattle.fractions.specs.Euclid.{quotient-unique, usual-end, usual-step}
 
--- the steps left are at most 2q+1 before a turned word and 2q before a word
+-- at most f steps
 unfoldable pub alternateFrom : ℕ → Bool → ℕ → ℕ → List ℕ
 alternateFrom zero z p q = []
 alternateFrom (suc f) z p zero = []
 alternateFrom (suc f) false p (suc q) = p / suc q ∷ alternateFrom f true (suc q) (p % suc q)
 alternateFrom (suc f) true p (suc q) = (p - 1) / suc q ∷ alternateFrom f false (suc q) ((p - 1) % suc q + 1)
 
+-- at most 2q+1 steps are left before a turned word, and 2q before a word
 unfoldable pub alternate : Bool → ℕ → ℕ → List ℕ
 alternate z p q = alternateFrom (suc (2 * q)) z p q
 
+-- the steps that may be left
 abbrev left : Bool → ℕ → ℕ
 left z q = 2 * q + cond z 1 0
 

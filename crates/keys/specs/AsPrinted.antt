@@ -23,8 +23,9 @@ key-example : keyOf words1983 314 100 ≡ bitsOf "11010010011011"
 unfolding keyOf formOf usual dividedFrom wordOf digitsAfterOne digitsFrom bitsOf
 key-example = refl
 
--- the string that section III reads: 3, 7, 15
-reading-example : quotientsOf words1983 (bitsOf "1101001001110111") ≡ 3 ∷ 7 ∷ 15 ∷ []
+-- the strings that section III reads, as 3, 7, 15 and, in registers, as 0, 3, 5
+reading-example : map (quotientsOf words1983) (bitsOf "1101001001110111" ∷ bitsOf "001011001" ∷ [])
+    ≡ (3 ∷ 7 ∷ 15 ∷ []) ∷ (0 ∷ 3 ∷ 5 ∷ []) ∷ []
 unfolding read readFrom wordOf digitsAfterOne digitsFrom firstNumber bitsOf
 reading-example = refl
 

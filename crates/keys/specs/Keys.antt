@@ -1,4 +1,5 @@
--- What a key is, and what a key is the key of (001, section III), over any family of words.
+-- What a key is, and what a key is the key of (001, section III), over any family of words. Counts, canonical keys,
+-- cutting and the column are the scope's.
 use mathlib.Core.Path.{_≡_}
 use mathlib.Core.Bool.{Bool, true, false, not, cond}
 use mathlib.Core.Logic.{_⊎_}
@@ -10,7 +11,7 @@ use Rattle.bits.specs.Binary.{bytesOf}
 use Rattle.families.specs.Families.{Family, ended}
 use Rattle.fractions.specs.Fractions.{Ratio, valueOf, formOf}
 
--- the words of quotients, every second one turned: the word of the first, and the rest spelled and turned as a whole
+-- the words of quotients, every second one turned (ii): the word of the first, and the rest spelled and turned as one
 abbrev pub spelled : Family → List ℕ → Bits
 spelled F [] = []
 spelled F (a ∷ l) = F .word a ++ turn (spelled F l)

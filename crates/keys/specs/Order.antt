@@ -44,13 +44,13 @@ module _ (F : Family) where
       )
 
   -- one of three cases, each with what follows of keys and ratios
-  pub data Standing (p q r s : ℕ) : Type 0 where
+  data Standing (p q r s : ℕ) : Type 0 where
     before : keyOf F p q ≺ keyOf F r s → p * s < r * q → Standing p q r s
     level : keyOf F p q ≡ keyOf F r s → p * s ≡ r * q → Standing p q r s
     behind : keyOf F r s ≺ keyOf F p q → r * q < p * s → Standing p q r s
 
   module _ (p q r s : ℕ) (hq : 1 ≤ q) (hs : 1 ≤ s) where
-    pub standing : Standing p q r s
+    standing : Standing p q r s
     standing = by-lists (compared (formOf p q) (formOf r s))
       where
         by-lists : Compared (formOf p q) (formOf r s) → Standing p q r s

@@ -5,8 +5,8 @@ use mathlib.Core.List.{List, [], _∷_, _++_}
 use Prim.Native.Nat.{ℕ, zero, suc, _+_, _*_, _≤_}
 use native.Mathlib.Omega.{arith}
 use lib.ListN.{length, drop, length-drop, length-map}
-use Rattle.bits.specs.Strings.{Bits, turn, Same, allOnes}
-use Rattle.bits.specs.Order.{same-append, same-drop, same-turned}
+use Rattle.bits.specs.Strings.{Bits, turn, Same}
+use Rattle.bits.specs.Order.{same-ones, same-append, same-drop, same-turned}
 use Rattle.bits.specs.Trim.{same-trimmed}
 use Rattle.families.specs.Families.{Below, here, there, Family, ended}
 use Rattle.fractions.specs.Fractions.{Quotients, EvenEnded}
@@ -17,12 +17,6 @@ use Rattle.keys.specs.Keys.{spelled, written, readFrom, read, quotientsO
 below-length : {s t : Bits} → Below s t → 1 ≤ length s
 below-length here = omega arith
 below-length (there b h) = omega arith
-
-all-ones : (s : Bits) → allOnes s ≡ true → Same true s []
-all-ones [] e i = refl
-all-ones (true ∷ s) e zero = refl
-all-ones (true ∷ s) e (suc i) = all-ones s e i
-all-ones (false ∷ s) e i = absurd (false≢true e)
 
 -- the rounds that may be left
 abbrev left : Bool → Bits → ℕ
@@ -41,7 +35,7 @@ pub record Spells (F : Family) (z : Bool) (s : Bits) (l : List ℕ) : Type 0 whe
 
 module _ (F : Family) where
   spells-end : (z : Bool) (s : Bits) → ended z s ≡ true → Spells F z s []
-  spells-end true s e = record { quotients = refl; same = all-ones s e }
+  spells-end true s e = record { quotients = refl; same = same-ones s e }
   spells-end false s e = absurd (false≢true e)
 
   spells-next : (z : Bool) (s : Bits) (a : ℕ) (rest : Bits) (l : List ℕ) → 1 ≤ a → Same z s (F .word a ++ rest)

@@ -1,12 +1,12 @@
 -- Spelled lists stand as the lists do: in the order of their values.
 use mathlib.Core.Path.{_≡_, refl, sym}
-use mathlib.Core.Bool.{Bool, true, false, not, false≢true}
+use mathlib.Core.Bool.{Bool, true, false, not, false≢true, Bool·not-not}
 use mathlib.Core.Logic.{inl, inr}
 use mathlib.Core.List.{List, [], _∷_, _++_}
 use Prim.Native.Nat.{ℕ, zero, suc}
 use native.Mathlib.Omega.{arith}
 use Rattle.bits.specs.Strings.{Bits, turn, Same, Before, _≺_}
-use Rattle.bits.specs.Order.{not-not, before-first, before-cons, before-append, before-turn}
+use Rattle.bits.specs.Order.{same-ones, before-first, before-cons, before-append, before-turn}
 use Rattle.bits.specs.Order.{before-same, before-not-same}
 use Rattle.families.specs.Families.{Below, here, there, Family}
 use Rattle.fractions.specs.Fractions.{Quotients, EvenEnded}
@@ -18,17 +18,12 @@ below-before : (z : Bool) {s t : Bits} (x y : Bits) → Below s t → Before z (
 below-before z x y (here {s = s} {t = t}) = before-first z (false ∷ (s ++ x)) (true ∷ (t ++ y)) refl refl
 below-before z x y (there b {s = s} {t = t} h) = before-cons z b (s ++ x) (t ++ y) (below-before z x y h)
 
--- a string of ones that goes on with ones
-same-one : Same true (true ∷ []) []
-same-one zero = refl
-same-one (suc i) = refl
-
 -- what is below another string has a 0 in it, so it stands before all ones
 below-ones : {s t : Bits} (x : Bits) → Below s t → Before true (s ++ x) []
 below-ones x (here {s = s}) = before-first true (false ∷ (s ++ x)) [] refl refl
 below-ones x (there false {s = s} h) = before-first true (false ∷ (s ++ x)) [] refl refl
 below-ones x (there true {s = s} h) =
-    before-same true (true ∷ (s ++ x)) (true ∷ (s ++ x)) (true ∷ []) [] (λ i. refl) same-one
+    before-same true (true ∷ (s ++ x)) (true ∷ (s ++ x)) (true ∷ []) [] (λ i. refl) (same-ones (true ∷ []) refl)
     (before-cons true true (s ++ x) [] (below-ones x h))
 
 module _ (F : Family) where
@@ -38,7 +33,7 @@ module _ (F : Family) where
   spelled-order z (smaller {a = a} {b = b} h) (k, s) t = below-before z _ _ (F .rising a b k h)
   spelled-order z (reversed a {l = l} {m = m} h) (j, s) (k, t) =
       before-append z (F .word a) (turn (spelled F l)) (turn (spelled F m))
-      (rw not-not at (before-turn (not z) (spelled F m) (spelled F l) (spelled-order (not z) h t s)))
+      (rw Bool·not-not at (before-turn (not z) (spelled F m) (spelled F l) (spelled-order (not z) h t s)))
   spelled-order true (finite {a = a} {l = l}) (k, s) t =
       below-ones (turn (spelled F l)) (F .rising a (suc a) k (omega arith))
   spelled-order false finite s t = absurd (false≢true t)

@@ -15,11 +15,12 @@ run-step : (T Y u v : ℕ) → u ≤ v → 1 ≤ Y → T * (v + u) ≤ Y * (Y * 
 run-step T Y u v h k e =
     let w : u ≤ Y * v = omega (arith, mul-le-mul-right v k) in omega (arith, mul-le-mul-left Y w)
 
--- a run of k ones leaves the values from 2^k on, which are two thirds apart for each of them
+-- a run of k ones leaves the values from 2^k on: of the width at most two thirds for each of them
 pub run-width : (k u v : ℕ) → u ≤ v → 3 ^ k * (v + u) ≤ 2 ^ k * (2 ^ k * v + u)
 run-width zero u v h = omega arith
 run-width (suc k) u v h = rw (pow-suc 3 k, pow-suc 2 k) (run-step (3 ^ k) (2 ^ k) u v h (pow-pos k) (run-width k u v h))
 
+-- its zero leaves at most two thirds of that
 stop-step : (T Y u v : ℕ) → 1 ≤ v → 1 ≤ Y → T * (v + u) ≤ Y * (Y * v + u)
     → T * 3 * (v * (v + u)) * Y < Y * 2 * ((Y * v + u) * ((Y + Y) * v + u))
 stop-step T Y u v h k e =
@@ -27,6 +28,7 @@ stop-step T Y u v h k e =
     let c : 0 < v * Y + 2 * u = omega (arith, mul-pos h k) in
     omega (arith, mul-le-mul-left (3 * v * Y) e, mul-pos (mul-pos k b) c)
 
+-- and so does a digit, which leaves H of 2H numbers
 digit-step : (T P W A Y H u v : ℕ) → 2 * H ≤ Y → T * W * (2 * H) < P * (A * ((Y + 2 * H) * v + u))
     → T * 3 * W * H < P * 2 * (A * ((Y + H) * v + u))
 digit-step T P W A Y H u v h e =
