@@ -1,7 +1,8 @@
 -- Strings of bits as binary numbers, and as bytes.
 use mathlib.Core.Bool.{Bool, false, cond}
-use mathlib.Core.List.{List, [], _∷_}
-use Prim.Native.Nat.{ℕ, zero, suc, _+_, _*_}
+use mathlib.Core.List.{List, [], _∷_, _++_}
+use Prim.Native.Nat.{ℕ, zero, suc, _+_, _*_, _/_, _%_, _^_}
+use lib.Dec.{eqb}
 use lib.ListN.{drop}
 use Rattle.bits.specs.Strings.{Bits}
 
@@ -28,3 +29,13 @@ firstBits z (suc n) (b ∷ s) = b ∷ firstBits z n s
 abbrev pub bytesOf : ℕ → Bits → List ℕ
 bytesOf zero s = []
 bytesOf (suc n) s = numberOf (firstBits false 8 s) ∷ bytesOf n (drop 8 s)
+
+-- the n lowest binary digits of v, top digit first
+unfoldable pub digitsIn : ℕ → ℕ → Bits
+digitsIn zero v = []
+digitsIn (suc n) v = eqb (v / 2 ^ n % 2) 1 ∷ digitsIn n v
+
+-- the bits of bytes, top bit first
+abbrev pub bitsOfBytes : List ℕ → Bits
+bitsOfBytes [] = []
+bitsOfBytes (c ∷ l) = digitsIn 8 c ++ bitsOfBytes l

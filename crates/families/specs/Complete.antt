@@ -1,15 +1,15 @@
 -- The 1983 words are complete: what begins an infinite string with a 0 in it is a run, its zero, and digits.
-use mathlib.Core.Path.{_≡_, refl, _∙_, ap}
+use mathlib.Core.Path.{_≡_, refl, _∙_}
 use mathlib.Core.Bool.{Bool, true, false, true≢false}
 use mathlib.Core.List.{[], _∷_, _++_, append-assoc}
 use Prim.Native.Nat.{ℕ, zero, suc, _≤_}
 use native.Mathlib.Omega.{arith}
 use lib.Pow.{pow-pos}
-use lib.ListN.{length, getD, replicate, drop}
-use lib.Seq.{drop-nil}
+use lib.ListN.{length, replicate, drop}
 use Rattle.bits.specs.Strings.{Bits, Same}
 use Rattle.bits.specs.Binary.{firstBits, numberFrom}
 use Rattle.bits.specs.Order.{same-append}
+use Rattle.bits.specs.Pieces.{same-first, length-first}
 use Rattle.families.specs.Families.{ended}
 use Rattle.families.specs.Words.{runOf, wordOf, firstNumber}
 use Rattle.families.specs.Digits.{number-low, digits-number}
@@ -25,17 +25,6 @@ same-run false [] h (suc i) = refl
 same-run z (true ∷ s) h i =
     same-append z (true ∷ []) s (replicate (runOf s) true ++ (false ∷ afterRun s)) (same-run z s h) i
 same-run z (false ∷ s) h i = refl
-
-same-first : (z : Bool) (n : ℕ) (s : Bits) → Same z s (firstBits z n s ++ drop n s)
-same-first z zero s i = refl
-same-first z (suc n) [] zero = refl
-same-first z (suc n) [] (suc i) = same-first z n [] i ∙ ap (λ (r : Bits). getD (firstBits z n [] ++ r) i z) (drop-nil n)
-same-first z (suc n) (b ∷ s) i = same-append z (b ∷ []) s (firstBits z n s ++ drop n s) (same-first z n s) i
-
-length-first : (z : Bool) (n : ℕ) (s : Bits) → length (firstBits z n s) ≡ n
-length-first z zero s = refl
-length-first z (suc n) [] = ap suc (length-first z n [])
-length-first z (suc n) (b ∷ s) = ap suc (length-first z n s)
 
 pub word-complete : (z : Bool) (s : Bits) → ended z s ≡ false
     → (1 ≤ firstNumber z s) × ((rest : Bits) × Same z s (wordOf (firstNumber z s) ++ rest))

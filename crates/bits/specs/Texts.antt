@@ -1,0 +1,21 @@
+-- Strings of bits as the characters 0 and 1, the bytes 48 and 49, and in lent memory.
+use mathlib.Core.Bool.{Bool, cond}
+use mathlib.Core.List.{List, _++_, map}
+use Prim.Native.Nat.{ℕ}
+use lib.Dec.{eqb}
+use lib.ListN.{length, drop}
+use Rattle.bits.specs.Strings.{Bits}
+
+abbrev pub charOf : Bool → ℕ
+charOf b = cond b 49 48
+
+abbrev pub textOf : Bits → List ℕ
+textOf s = map charOf s
+
+-- the bits of a text; a character other than 1 counts as 0
+abbrev pub bitsOfText : List ℕ → Bits
+bitsOfText k = map (λ c. eqb c 49) k
+
+-- memory after t was written at its front
+abbrev pub inFront : List ℕ → List ℕ → List ℕ
+inFront t m = t ++ drop (length t) m

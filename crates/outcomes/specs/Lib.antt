@@ -1,0 +1,5 @@
+pub mod Outcomes
+pub mod Refusals
+pub mod Writing
+pub mod Reading
+pub mod Packing

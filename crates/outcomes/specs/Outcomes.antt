@@ -1,0 +1,33 @@
+-- The outcome of a call: its refusal's number, 0 for none, its values, and the lent memory as it leaves it.
+use mathlib.Core.Bool.{Bool, cond}
+use mathlib.Core.List.{List, [], _∷_}
+use Prim.Native.Nat.{ℕ}
+use lib.ListN.{length, replicate}
+
+pub record Outcome : Type 0 where
+  pub refusal : ℕ
+  pub values : List ℕ
+  pub memory : List ℕ
+
+-- a call that succeeds
+abbrev pub gives : List ℕ → List ℕ → Outcome
+gives values memory = record { refusal = 0; values = values; memory = memory }
+
+-- a call that refuses by number n: all of its values, v of them, are zero
+abbrev pub refuses : ℕ → ℕ → List ℕ → Outcome
+refuses n v memory = record { refusal = n; values = replicate v 0; memory = memory }
+
+-- a number and whether its fault is there
+abbrev pub Fault : Type 0
+Fault = ℕ × Bool
+
+-- the first number in the order whose fault is there; 0 for none
+abbrev pub firstOf : List Fault → ℕ
+firstOf [] = 0
+firstOf ((n, here) ∷ l) = cond here n (firstOf l)
+
+-- a call that refuses by the first fault that is there and then leaves memory as it was before; else it gives its
+-- values and leaves memory as after
+abbrev pub called : List Fault → List ℕ → List ℕ → List ℕ → Outcome
+called [] values before after = gives values after
+called ((n, here) ∷ l) values before after = cond here (refuses n (length values) before) (called l values before after)

@@ -1,0 +1,46 @@
+-- The refusal numbers, once, and when each is due.
+use mathlib.Core.Bool.{Bool, cond, _&&_, _||_, not}
+use mathlib.Core.List.{List, [], _∷_}
+use Prim.Native.Nat.{ℕ, suc, _-_}
+use lib.Dec.{eqb, ltb}
+use lib.ListN.{length, getD}
+use Rattle.fractions.specs.Fractions.{Ratio}
+use Rattle.keys.specs.Size.{limit}
+use Rattle.outcomes.specs.Outcomes.{Fault}
+
+-- 1: denominator 0
+abbrev pub zeroDenominator : ℕ → Fault
+zeroDenominator q = (1, eqb q 0)
+
+-- 2: output buffer shorter than n bytes
+abbrev pub shortBuffer : ℕ → List ℕ → Fault
+shortBuffer n m = (2, ltb (length m) n)
+
+-- 3: text key empty
+abbrev pub emptyKey : List ℕ → Fault
+emptyKey k = (3, eqb (length k) 0)
+
+-- 4: text key over 96 characters
+abbrev pub longKey : List ℕ → Fault
+longKey k = (4, ltb 96 (length k))
+
+-- the index of the first character that is neither 0 nor 1; the length where there is none
+unfoldable pub firstStrange : List ℕ → ℕ
+firstStrange [] = 0
+firstStrange (c ∷ k) = cond (eqb c 48 || eqb c 49) (suc (firstStrange k)) 0
+
+-- 5: a character that is neither 0 nor 1
+abbrev pub strangeKey : List ℕ → Fault
+strangeKey k = (5, ltb (firstStrange k) (length k))
+
+-- 6: last character 0 in a key other than the single 0
+abbrev pub openKey : List ℕ → Fault
+openKey k = (6, ltb 1 (length k) && eqb (getD k (length k - 1) 48) 48)
+
+-- 7: numerator or denominator in lowest terms above 4294967295
+abbrev pub outOfRange : Ratio → Fault
+outOfRange r = (7, ltb limit (r .num) || ltb limit (r .den))
+
+-- 9: column not of exactly 12 bytes
+abbrev pub wrongColumn : List ℕ → Fault
+wrongColumn c = (9, not (eqb (length c) 12))
