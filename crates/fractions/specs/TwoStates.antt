@@ -1,16 +1,17 @@
 -- Euclid's algorithm in two states that alternate, the way the code goes. Before a word (false) p is divided by q.
 -- Before a turned word (true) p-1 is, so that at least 1 is left of p and a word follows; with q = 0 it has ended. It
 -- gives the even-ended form with no special case for its last quotient.
-use mathlib.Core.Path.{_≡_, refl, sym, ap}
+use mathlib.Core.Path.{_≡_, refl, sym, _∙_, ap}
 use mathlib.Core.Bool.{Bool, true, false, cond}
 use mathlib.Core.Logic.{_⊎_, inl, inr}
 use mathlib.Core.List.{List, [], _∷_}
 use Prim.Native.Nat.{ℕ, zero, suc, _+_, _*_, _-_, _/_, _%_, _≤_, _<_}
 use native.Mathlib.Nat.{div-add-mod', mod-lt, le-div-iff-mul-le, eq-zero-or-pos}
+use native.Mathlib.Decide.{decLt}
 use native.Mathlib.Numerals.{sub-one}
 use native.Mathlib.Omega.{arith}
-use Rattle.fractions.specs.Fractions.{usual, evenEnded, formOf, Quotients, EvenEnded}
-use Rattle.fractions.specs.Euclid.{quotient-unique, usual-end, usual-step}
+use Rattle.fractions.specs.Fractions.{usual, gcd, evenEnded, formOf, Quotients, EvenEnded}
+use Rattle.fractions.specs.Euclid.{quotient-unique, usual-end, usual-step, gcd-step}
 
 -- at most f steps
 unfoldable pub alternateFrom : ℕ → Bool → ℕ → ℕ → List ℕ
@@ -90,6 +91,17 @@ last-split q r (suc b) h e k =
       alternate-end,
       sub-one,
     )
+
+-- the last divisor stays in the turned state too, where the remainder may be the divisor
+pub gcd-turned : (p q b r : ℕ) → p ≡ b * q + r → 1 ≤ r → r ≤ q → gcd p q ≡ gcd q r
+gcd-turned p q b r e k h = by-size (decLt r q)
+  where
+    by-size : Dec (r < q) → gcd p q ≡ gcd q r
+    by-size (yes l) = gcd-step p q b r e l
+    by-size (no l) =
+        let same : r ≡ q = omega arith in
+        gcd-step p q (b + 1) 0 (omega arith) (omega arith)
+        ∙ sym (rw same (gcd-step q q 1 0 (omega arith) (omega arith)))
 
 -- the even-ended form of what follows a quotient a at an even index, where q over r is still to be expanded
 abbrev Meet : ℕ → ℕ → ℕ → Type 0

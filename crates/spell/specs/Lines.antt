@@ -1,10 +1,11 @@
 -- A line: a string of at most 96 bits as a number in two machine words, and the count of its bits.
 use mathlib.Core.Path.{_≡_}
-use Prim.Native.Nat.{ℕ, _+_, _*_, _^_, _≤_, _<_}
+use Prim.Native.Nat.{ℕ, _+_, _*_, _-_, _^_, _≤_, _<_}
 use lib.ListN.{length}
 use Rattle.bits.specs.Strings.{Bits}
 use Rattle.bits.specs.Binary.{numberFrom}
 use Rattle.spell.specs.declared.line.Line.{Line}
+use Rattle.spell.specs.declared.line.Measured.{Measured}
 
 abbrev pub numberOfLine : Line → ℕ
 numberOfLine s = s .high * 2 ^ 64 + s .low
@@ -31,3 +32,13 @@ pub record After (s : Line) (t : Bits) (r : Line) : Type 0 where
   pub number : numberOfLine r ≡ numberFrom (numberOfLine s) t
   pub bits : r .bits ≡ s .bits + length t
   pub small : Small r
+
+-- k is the number of binary digits of a; r has the bits of its word and three times its highest digit
+pub record Measure (a : ℕ) (r : Measured) : Type 0 where
+  pub k : ℕ
+  pub some : 1 ≤ k
+  pub few : k ≤ 32
+  pub low : 2 ^ (k - 1) ≤ a
+  pub high : a < 2 ^ k
+  pub bits : r .bits ≡ 2 * k - 1
+  pub triple : r .triple ≡ 3 * 2 ^ (k - 1)

@@ -2,7 +2,7 @@
 use mathlib.Core.Path.{_≡_}
 use mathlib.Core.Bool.{true, cond}
 use mathlib.Core.List.{List}
-use Prim.Native.Nat.{ℕ, _+_, _≤_, _<_}
+use Prim.Native.Nat.{ℕ, _+_, _^_, _≤_, _<_}
 use lib.Dec.{eqb}
 use lib.ListN.{length}
 use Rattle.bits.specs.Strings.{Bits, turn}
@@ -31,6 +31,7 @@ wordsToCome d r = turn (spelled words1983 (toCome d r))
 -- the words still to come fit behind s
 pub record Room (d r : ℕ) (s : Line) (quotients : ℕ) : Type 0 where
   pub turned : r < d
+  pub range : d < 2 ^ 32
   pub small : Small s
   pub some : 1 ≤ s .bits
   pub room : s .bits + length (wordsToCome d r) ≤ 96

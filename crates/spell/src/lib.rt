@@ -5,11 +5,16 @@ use line::Line;
 ghost use mathlib.Core.Path.{_≡_};
 ghost use Prim.Native.Nat.{_<_};
 ghost use Rattle.spell.specs.Spelling.{spelling, Continued, Room};
+
 mod line;
 
 // A key's block, the quotients written, and the greatest common divisor of numerator and denominator.
 pub enum Spelled {
-    Key { block: Block, quotients: u32, divisor: u32 },
+    Key {
+        block: Block,
+        quotients: u32,
+        divisor: u32,
+    },
     ZeroDenominator,
 }
 

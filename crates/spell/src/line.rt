@@ -8,7 +8,7 @@ ghost use Rattle.bits.specs.Strings.{Bits, turn};
 ghost use Rattle.bits.specs.Binary.{numberOf};
 ghost use Rattle.blocks.specs.Blocks.{blockOf};
 ghost use Rattle.families.specs.Words.{wordOf};
-ghost use Rattle.spell.specs.Lines.{Small, numberOfLine, Fits, Appended, After};
+ghost use Rattle.spell.specs.Lines.{Small, numberOfLine, Fits, Appended, After, Measure};
 
 pub struct Line {
     pub high: u64,
@@ -31,14 +31,31 @@ fn append(s: Line, w: u64, n: u32) -> Line
     }
 }
 
+// The bits of the word of a, and three times the highest binary digit of a.
+struct Measured {
+    bits: u32,
+    triple: u64,
+}
+
+fn measure(a: u32) -> Measured
+    requires { ⌜ 1 ≤ a ⌝ }
+    ensures { λ r. ⌜ Measure a r ⌝ }
+{
+    let zeros = u32::leading_zeros(a | 1);
+    Measured {
+        bits: 63 - 2 * zeros,
+        triple: 0x1_8000_0000 >> zeros,
+    }
+}
+
 // The word of a number a of k binary digits is a + 2^(2k-1) - 3 * 2^(k-1), in 2k-1 bits.
 pub fn append_word(s: Line, a: u32) -> Line
     requires { ⌜ (1 ≤ a) × (Small s × (s .bits + length (wordOf a) ≤ 96)) ⌝ }
     ensures { λ r. ⌜ After s (wordOf a) r ⌝ }
 {
-    let z = u32::leading_zeros(a | 1);
-    let n = 63 - 2 * z;
-    append(s, (a as u64) + (1u64 << n) - (0x1_8000_0000u64 >> z), n)
+    let m = measure(a);
+    let n = m.bits;
+    append(s, (a as u64) + (1u64 << n) - m.triple, n)
 }
 
 // The turned word is 2^(2k-1) - 1 less that.
@@ -46,8 +63,8 @@ pub fn append_turned(s: Line, a: u32) -> Line
     requires { ⌜ (1 ≤ a) × (Small s × (s .bits + length (wordOf a) ≤ 96)) ⌝ }
     ensures { λ r. ⌜ After s (turn (wordOf a)) r ⌝ }
 {
-    let z = u32::leading_zeros(a | 1);
-    append(s, (0x1_8000_0000u64 >> z) - 1 - (a as u64), 63 - 2 * z)
+    let m = measure(a);
+    append(s, m.triple - 1 - (a as u64), m.bits)
 }
 
 // The block of the string.
