@@ -6,3 +6,4 @@ pub mod Order
 pub mod Trim
 pub mod Numbers
 pub mod Pieces
+pub mod Sums

@@ -2,19 +2,19 @@
 use mathlib.Core.Path.{_≡_, refl, sym, _∙_, ap}
 use mathlib.Core.Bool.{Bool, true, false}
 use mathlib.Core.List.{[], _∷_, _++_, append-nil}
-use Prim.Native.Nat.{ℕ, zero, suc, _+_, _*_, _-_, _/_, _%_, _^_, _≤_, _<_}
-use native.Mathlib.Nat.{pow-suc, mod-eq-of-lt, div-eq-of-lt, mod-one, mod-lt, zero-add, suc-add, add-mul-div-right, add-sub-of-le}
+use Prim.Native.Nat.{ℕ, zero, suc, _+_, _*_, _/_, _%_, _^_, _≤_, _<_}
+use native.Mathlib.Nat.{pow-suc, mod-eq-of-lt, div-eq-of-lt, mod-one, mod-lt, zero-add, suc-add, add-mul-div-right}
 use native.Mathlib.Numerals.{one-add}
 use native.Mathlib.Decide.{decLt}
 use native.Mathlib.Omega.{arith}
 use lib.Pow.{pow-pos, high, mod-pow-add}
 use lib.Dec.{eqb, lit<}
 use lib.ListN.{length, getD, drop, List·getD-append, List·getD-eq-default}
-use lib.Seq.{drop-nil, drop-length, getD-drop, ext-getD}
+use lib.Seq.{drop-nil, getD-drop, ext-getD}
 use Rattle.bits.specs.Strings.{Bits, Same}
 use Rattle.bits.specs.Binary.{digitOf, numberOf, firstBits, digitsIn}
 use Rattle.bits.specs.Order.{same-append}
-use Rattle.bits.specs.Numbers.{number-from, number-append, number-lt}
+use Rattle.bits.specs.Numbers.{number-from, number-lt}
 
 pub same-first : (z : Bool) (n : ℕ) (s : Bits) → Same z s (firstBits z n s ++ drop n s)
 same-first z zero s i = refl
@@ -114,18 +114,3 @@ digits-of-number (b ∷ s) = λ i. by-bit b i ∷ (rest ∙ digits-of-number s) 
 
     rest : digitsIn (length s) (numberOf (b ∷ s)) ≡ digitsIn (length s) (numberOf s)
     rest = rw (number-from (2 * 0 + digitOf b) s) (digits-above (length s) (2 * 0 + digitOf b) (numberOf s))
-
-number-zeros : (n : ℕ) → numberOf (firstBits false n []) ≡ 0
-number-zeros zero = refl
-number-zeros (suc n) = number-zeros n
-
--- a piece that holds the whole string is the string shifted: zeros follow it
-pub number-extended : (n : ℕ) (s : Bits) → length s ≤ n
-    → numberOf (firstBits false n s) ≡ numberOf s * 2 ^ (n - length s)
-number-extended n s h =
-    let j = n - length s in
-    let whole : firstBits false n s ≡ s ++ firstBits false j [] =
-    ap (λ (m : ℕ). firstBits false m s) (sym (add-sub-of-le h))
-    ∙ first-add false (length s) j s ∙ rw (first-all, drop-length) refl in
-    rw (whole, number-append 0 s (firstBits false j []), number-from (numberOf s) (firstBits false j []), length-first)
-    (omega (arith, number-zeros j))

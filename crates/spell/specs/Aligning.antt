@@ -11,7 +11,8 @@ use lib.Pow.{pow-add, pow-pos, pow-mono, shl-exact, shl-shr, high, low}
 use Rattle.bits.specs.Strings.{Bits}
 use Rattle.bits.specs.Binary.{numberOf, firstBits}
 use Rattle.bits.specs.Numbers.{number-from, number-append, number-lt}
-use Rattle.bits.specs.Pieces.{first-append, number-extended}
+use Rattle.bits.specs.Pieces.{first-append}
+use Rattle.bits.specs.Sums.{number-extended}
 use Rattle.blocks.specs.Blocks.{blockOf}
 use Rattle.fractions.specs.Euclid.{quotient-unique}
 use Rattle.spell.specs.declared.line.Line.{Line}
@@ -29,8 +30,9 @@ short-aligned s small short t size number = λ i. record { high = high-word i; l
 
     high-word : (s .low * 2 ^ (64 - s .bits)) % 2 ^ 64 ≡ numberOf (firstBits false 64 t)
     high-word =
+        let all : length t + (64 - s .bits) ≡ 64 = omega arith in
         shl-exact (s .bits) (64 - s .bits) 64 (omega (arith, small)) (omega arith)
-        ∙ sym (rw (only, size) at (number-extended 64 t (omega arith)))
+        ∙ sym (rw (all, only) at (number-extended (64 - s .bits) t))
 
     low-word : 0 ≡ numberOf (firstBits false 32 (drop 64 t))
     low-word = rw (drop-of-length-le t {i = 64} (omega arith)) refl
@@ -110,7 +112,7 @@ module _ (s : Line) (small : Small s) (low : s .low < 2 ^ 64) (long : 64 < s .bi
       low-word : (s .low * A) % 2 ^ 64 / 2 ^ 32 ≡ numberOf (firstBits false 32 y)
       low-word =
           let left : 96 - s .bits + 32 ≡ 128 - s .bits = omega arith in
-          let behind : 32 - (s .bits - 64) ≡ 96 - s .bits = omega arith in
+          let all : length y + (96 - s .bits) ≡ 32 = omega (arith, y-size) in
           let shift : A ≡ 2 ^ (96 - s .bits) * 2 ^ 32 =
           ap (λ (k : ℕ). 2 ^ k) (sym left) ∙ pow-add 2 (96 - s .bits) 32 in
           let apart : numberOf y * A ≡ numberOf y * 2 ^ (96 - s .bits) * 2 ^ 32 =
@@ -121,4 +123,4 @@ module _ (s : Line) (small : Small s) (low : s .low < 2 ^ 64) (long : 64 < s .bi
             apart,
           )
           (shl-shr (numberOf y * 2 ^ (96 - s .bits)) 32
-          ∙ sym (rw (y-size, behind) at (number-extended 32 y (omega (arith, y-size)))))
+          ∙ sym (rw all at (number-extended (96 - s .bits) y)))

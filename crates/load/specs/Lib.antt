@@ -1,0 +1,4 @@
+pub mod Loading
+pub mod Parts
+pub mod Gathering
+pub mod Bytes

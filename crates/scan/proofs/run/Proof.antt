@@ -1,0 +1,42 @@
+-- `scan::run` counts the ones in front. The invariant: what is left is w without its first n bits, which are ones.
+-- The measure is what is missing to 32. Assumes nothing.
+use mathlib.Core.Path.{_≡_, refl}
+use Prim.Native.Nat.{_+_, _*_, _-_, _^_, _≤_}
+use native.Mathlib.Omega.{arith}
+use lib.Pow.{pow-add, pow-pos}
+use Rattle.scan.specs.Runs.{next-one}
+use Rattle.scan.proofs.run.Statement.{statement}
+use Rattle.scan.proofs.run.Tie as tie
+
+abbrev Inv-loop : tie.InvT-loop
+Inv-loop w left₀ n₀ left n = (left + 2 ^ 64 * 2 ^ n ≡ w * 2 ^ n + 2 ^ 64) × (n ≤ 32)
+
+abbrev μ-loop : tie.MeasureT-loop
+μ-loop w left₀ n₀ left n = 32 - n
+
+loop-holds : tie.Need-loop-holds Inv-loop μ-loop
+loop-holds c = omega arith
+
+add-n : tie.Need-add-n Inv-loop μ-loop
+add-n c = omega arith
+
+loop-less : tie.Need-loop-less Inv-loop μ-loop
+loop-less c = omega arith
+
+loop-again : tie.Need-loop-again Inv-loop μ-loop
+loop-again c =
+    let l = c .before .before .loop in
+    let w = c .before .before .before .args .w in
+    let next =
+    next-one (2 ^ (l .n)) (2 ^ 64) (2 ^ 63) w (l .left) refl (omega arith) (pow-pos (l .n)) (omega arith) (l .inv .0) in
+    (rw (pow-add 2 (l .n) 1) next, omega arith)
+
+returns : tie.Need-returns Inv-loop μ-loop
+returns c = record { most = omega arith; ones = omega arith; stopped = λ h. omega arith }
+
+returns-2 : tie.Need-returns-2 Inv-loop μ-loop
+returns-2 c = record { most = omega arith; ones = omega arith; stopped = λ h. omega arith }
+
+pub run-spec : {M : Type 1} → statement M
+run-spec =
+    tie.close (tie.spec Inv-loop μ-loop loop-holds add-n loop-less loop-again returns returns-2)

@@ -1,0 +1,161 @@
+-- A string that begins with a word: what its first 64 bits are as a number, and what is taken from it.
+use mathlib.Core.Path.{_≡_, refl, sym, _∙_, ap}
+use mathlib.Core.Bool.{Bool, true, false}
+use mathlib.Core.List.{_++_, _∷_, append-assoc}
+use Prim.Native.Nat.{ℕ, suc, _+_, _*_, _-_, _^_, _≤_, _<_}
+use native.Mathlib.Nat.{pow-suc}
+use native.Mathlib.Numerals.{sub-one}
+use native.Mathlib.Omega.{arith}
+use native.Mathlib.Decide.{decLt}
+use borrow.Author.Tests.{lt-ltb, le-ltb}
+use lib.Pow.{pow-add, pow-mono}
+use lib.ListN.{length, replicate, replicate-append-replicate}
+use lib.Seq.{drop-append-seam}
+use Rattle.bits.specs.Strings.{Bits, Same}
+use Rattle.bits.specs.Binary.{numberOf, firstBits}
+use Rattle.bits.specs.Numbers.{number-lt, number-ones}
+use Rattle.bits.specs.Pieces.{length-first, first-append, first-same}
+use Rattle.families.specs.Families.{ended}
+use Rattle.families.specs.Words.{digitsAfterOne, wordOf, firstNumber}
+use Rattle.families.specs.Digits.{number-digits, number-low, number-high}
+use Rattle.families.specs.Measured.{word-length, word-number}
+use Rattle.families.specs.Complete.{word-complete}
+use Rattle.keys.specs.Size.{limit}
+use Rattle.scan.specs.declared.Taken.the-variants.{Quotient, Long, End}
+use Rattle.scan.specs.Taking.{takenFrom}
+use Rattle.scan.specs.Windows.{piece-number}
+use Rattle.scan.specs.Runs.{Counted, valueOf, counted-many, Fronted, fronted-run, fronted-value}
+
+-- the first bits of a string that begins with p, as a number
+begun : (z : Bool) (s p t : Bits) (m n : ℕ) → length p + m ≡ n → Same z s (p ++ t)
+    → numberOf (firstBits z n s) ≡ numberOf p * 2 ^ m + numberOf (firstBits z m t)
+begun z s p t m n e same =
+    ap numberOf (first-same z n s (p ++ t) same) ∙ ap (λ (x : ℕ). numberOf (firstBits z x (p ++ t))) (sym e)
+    ∙ rw (first-append, drop-append-seam) at (piece-number z (length p) m (p ++ t))
+
+-- with 32 ones in front
+ones-number : (z : Bool) (s t : Bits) (k : ℕ) → 32 ≤ k → Same z s (replicate k true ++ t)
+    → 2 ^ 64 ≤ numberOf (firstBits z 64 s) + 2 ^ 32
+ones-number z s t k h same = omega (arith, begun z s (replicate 32 true) more 32 64 refl front, number-ones 32)
+  where
+    more : Bits
+    more = replicate (k - 32) true ++ t
+
+    whole : k ≡ 32 + (k - 32)
+    whole = omega arith
+
+    split : replicate k true ++ t ≡ replicate 32 true ++ more
+    split =
+        ap (λ (n : ℕ). replicate n true ++ t) whole
+        ∙ ap (λ (x : Bits). x ++ t) (sym (replicate-append-replicate 32 (k - 32) true))
+        ∙ append-assoc (replicate 32 true) (replicate (k - 32) true) t
+
+    front : Same z s (replicate 32 true ++ more)
+    front = rw split at same
+
+word-ones : (z : Bool) (s rest : Bits) (a : ℕ) → Same z s (wordOf a ++ rest) → 32 ≤ length (digitsAfterOne a)
+    → 2 ^ 64 ≤ numberOf (firstBits z 64 s) + 2 ^ 32
+unfolding wordOf
+word-ones z s rest a same h =
+    ones-number z s (false ∷ (digitsAfterOne a ++ rest)) (length (digitsAfterOne a)) h (rw append-assoc at same)
+
+-- a word of k digits after the leading one, where it fits the 64 bits
+word-fronted : (z : Bool) (s t : Bits) (k a : ℕ) → k < 32 → 2 ^ k ≤ a → a < 2 ^ suc k → Same z s (wordOf a ++ t)
+    → Fronted k (63 - 2 * k) a (numberOf (firstBits z (63 - 2 * k) t)) (numberOf (firstBits z 64 s))
+word-fronted z s t k a h low high same = record {
+  size = omega arith;
+  low = low;
+  high = high;
+  small = rw length-first at (number-lt (firstBits z f t));
+  made = omega (arith, front, ap (λ (x : ℕ). x * 2 ^ f) number, powers);
+}
+  where
+    f : ℕ
+    f = 63 - 2 * k
+
+    low-again : 2 ^ (suc k - 1) ≤ a
+    low-again = rw sub-one low
+
+    front : numberOf (firstBits z 64 s) ≡ numberOf (wordOf a) * 2 ^ f + numberOf (firstBits z f t)
+    front = begun z s (wordOf a) t f 64 (omega (arith, word-length (suc k) a low-again high)) same
+
+    number : numberOf (wordOf a) + 3 * 2 ^ k ≡ a + 2 ^ (2 * k + 1)
+    number =
+        omega (
+          arith,
+          word-number (suc k) a low-again high,
+          ap {B = ℕ} (λ n. 2 ^ n) {x = suc k - 1} {y = k} (omega arith),
+          ap {B = ℕ} (λ n. 2 ^ n) {x = 2 * suc k - 1} {y = 2 * k + 1} (omega arith),
+          pow-suc 2 k,
+          pow-mono {i = suc k} {j = 2 * k + 1} (omega arith),
+        )
+
+    powers : 2 ^ (2 * k + 1) * 2 ^ f ≡ 2 ^ 64
+    powers = let e : 2 * k + 1 + f ≡ 64 = omega arith in sym (pow-add 2 (2 * k + 1) f) ∙ ap (λ (n : ℕ). 2 ^ n) e
+
+taken-above : (z : Bool) (s : Bits) → ended z s ≡ false → limit < firstNumber z s → takenFrom z s ≡ Long
+unfolding takenFrom
+taken-above z s h l = rw (h, lt-ltb limit (firstNumber z s) l)
+
+taken-within : (z : Bool) (s : Bits) → ended z s ≡ false → firstNumber z s ≤ limit
+    → takenFrom z s ≡ Quotient (firstNumber z s) (length (wordOf (firstNumber z s)))
+unfolding takenFrom
+taken-within z s h l = rw (h, le-ltb limit (firstNumber z s) l)
+
+pub taken-ended : (z : Bool) (s : Bits) → ended z s ≡ true → takenFrom z s ≡ End
+unfolding takenFrom
+taken-ended z s h = rw h
+
+-- the run that is counted of the first 64 bits of a string that isn't ended says what is taken from it
+module _ (z : Bool) (s : Bits) {w r : ℕ} (h : ended z s ≡ false) (e : numberOf (firstBits z 64 s) ≡ w)
+    (c : Counted w r) where
+  abbrev a : ℕ
+  a = firstNumber z s
+
+  -- how many digits follow the leading one
+  abbrev k : ℕ
+  k = length (digitsAfterOne a)
+
+  low : 2 ^ k ≤ a
+  low = omega (arith, number-low (digitsAfterOne a), number-digits a (word-complete z s h .0))
+
+  high : a < 2 ^ suc k
+  high = omega (arith, number-high (digitsAfterOne a), number-digits a (word-complete z s h .0))
+
+  abbrev rest : Bits
+  rest = word-complete z s h .1 .0
+
+  same : Same z s (wordOf a ++ rest)
+  same = word-complete z s h .1 .1
+
+  -- the bits that follow the word, as a number
+  abbrev behind : ℕ
+  behind = numberOf (firstBits z (63 - 2 * k) rest)
+
+  fronted : k < 32 → Fronted k (63 - 2 * k) a behind w
+  fronted l = rw e at (word-fronted z s rest k a l low high same)
+
+  run-few : k < 32 → r ≡ k
+  run-few l = fronted-run (fronted l) c l
+
+  run-many : 32 ≤ k → r ≡ 32
+  run-many l = counted-many c (rw e at (word-ones z s rest a same l))
+
+  pub taken-long : 31 < r → Long ≡ takenFrom z s
+  taken-long l = by-size (decLt k 32)
+    where
+      by-size : Dec (k < 32) → Long ≡ takenFrom z s
+      by-size (yes m) = absurd (omega (arith, run-few m))
+      by-size (no m) = sym (taken-above z s h (omega (arith, low, pow-mono {i = 32} {j = k} (omega arith))))
+
+  pub taken-word : r < 32 → Quotient (valueOf w r) (2 * r + 1) ≡ takenFrom z s
+  taken-word l = by-size (decLt k 32)
+    where
+      by-size : Dec (k < 32) → Quotient (valueOf w r) (2 * r + 1) ≡ takenFrom z s
+      by-size (yes m) =
+          let v : valueOf w r ≡ a = rw (run-few m) (fronted-value (fronted m)) in
+          let n : 2 * r + 1 ≡ length (wordOf a) =
+          omega (arith, run-few m, word-length (suc k) a (rw sub-one low) high) in
+          (λ i. Quotient (v i) (n i))
+          ∙ sym (taken-within z s h (omega (arith, high, pow-mono {i = suc k} {j = 32} (omega arith))))
+      by-size (no m) = absurd (omega (arith, run-many (omega arith)))
