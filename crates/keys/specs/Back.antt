@@ -73,6 +73,13 @@ module _ (F : Family) where
   pub key-value : (p q : ℕ) → 1 ≤ q → valueOfKey F (keyOf F p q) ≡ lowestTerms p q
   key-value p q h = ap valueOf (key-quotients p q h) ∙ form-value p q h
 
+  -- the value is that of the infinite string
+  pub value-same : (j k : Bits) → Same false j k → valueOfKey F j ≡ valueOfKey F k
+  value-same j k e =
+      ap valueOf
+      (written-unique F (quotientsOf F j) (quotientsOf F k) (quotients-even-ended F j) (quotients-even-ended F k)
+      (λ i. sym (written-same F j i) ∙ e i ∙ written-same F k i))
+
   pub value-denominator : (k : Bits) → 1 ≤ (valueOfKey F k) .den
   value-denominator k = by-form (quotientsOf F k) (quotients-even-ended F k)
     where

@@ -1,0 +1,5 @@
+pub mod Answers
+pub mod Finding
+pub mod Steps
+pub mod Range
+pub mod Replies
