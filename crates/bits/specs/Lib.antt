@@ -7,3 +7,4 @@ pub mod Trim
 pub mod Numbers
 pub mod Pieces
 pub mod Sums
+pub mod Columns

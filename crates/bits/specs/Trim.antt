@@ -78,3 +78,13 @@ trimmed-length (false ∷ s) = omega (arith, behind-zero-length (trimmed s), tri
 pub closed-length : (s : Bits) → length (closed s) ≤ length s
 closed-length [] = omega arith
 closed-length (b ∷ s) = omega (arith, trimmed-length s)
+
+pub closed-some : (s : Bits) → 1 ≤ length s → 1 ≤ length (closed s)
+closed-some [] h = h
+closed-some (b ∷ s) h = omega arith
+
+-- strings that are one infinite string are closed alike
+pub closed-equal : (s t : Bits) → 1 ≤ length s → 1 ≤ length t → Same false s t → closed s ≡ closed t
+closed-equal [] t h k e = absurd (omega arith)
+closed-equal (b ∷ s) [] h k e = absurd (omega arith)
+closed-equal (b ∷ s) (c ∷ t) h k e = λ i. e 0 i ∷ trimmed-same s t (λ j. e (suc j)) i

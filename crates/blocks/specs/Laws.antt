@@ -2,14 +2,14 @@
 use mathlib.Core.Path.{_≡_, refl, sym, _∙_, ap}
 use mathlib.Core.Bool.{false}
 use mathlib.Core.List.{_++_}
-use Prim.Native.Nat.{ℕ, _+_, _^_, _<_}
+use Prim.Native.Nat.{ℕ, _^_, _≤_, _<_}
 use native.Mathlib.Omega.{arith}
 use lib.ListN.{length, drop, length-append}
 use lib.Seq.{drop-at}
 use Rattle.bits.specs.Strings.{Bits, Same}
 use Rattle.bits.specs.Binary.{numberOf, firstBits, digitsIn}
 use Rattle.bits.specs.Order.{same-drop}
-use Rattle.bits.specs.Pieces.{length-first, first-add, first-append, first-all, first-same, same-rest, length-digits, number-of-digits, digits-of-number}
+use Rattle.bits.specs.Pieces.{length-first, first-add, first-append, first-all, first-same, same-rest, same-piece, length-digits, number-of-digits, digits-of-number}
 use Rattle.blocks.specs.declared.Block.{Block}
 use Rattle.blocks.specs.Blocks.{bitsOfBlock, blockOf}
 
@@ -44,3 +44,7 @@ block-same s t e = λ i. record {
   high = numberOf (first-same false 64 s t e i);
   low = numberOf (first-same false 32 (drop 64 s) (drop 64 t) (same-rest false 64 s t e) i);
 }
+
+-- a block holds a string of up to 96 bits whole
+pub block-whole : (s : Bits) → length s ≤ 96 → Same false (bitsOfBlock (blockOf s)) s
+block-whole s h = rw block-bits (same-piece false 96 s h)

@@ -17,7 +17,7 @@ use Rattle.keys.specs.Spelling.{written-unique}
 use Rattle.keys.specs.Reading.{quotients-even-ended, written-same}
 
 -- a canonical key has nothing to drop
-closed-canonical : (k : Bits) → Canonical k → closed k ≡ k
+pub closed-canonical : (k : Bits) → Canonical k → closed k ≡ k
 closed-canonical k (inl e) = rw e
 closed-canonical k (inr ([], e)) = rw e
 closed-canonical k (inr (b ∷ s, e)) = rw e (ap {B = Bits} (λ r. b ∷ r) (trimmed-ended s))

@@ -3,3 +3,4 @@ pub mod Refusals
 pub mod Writing
 pub mod Reading
 pub mod Packing
+pub mod Buffers

@@ -17,17 +17,17 @@ gives values memory = record { refusal = 0; values = values; memory = memory }
 abbrev pub refuses : ℕ → ℕ → List ℕ → Outcome
 refuses n v memory = record { refusal = n; values = replicate v 0; memory = memory }
 
--- a number and whether its fault is there
-abbrev pub Fault : Type 0
-Fault = ℕ × Bool
+-- a refusal's number and whether its fault is there
+abbrev pub Refusal : Type 0
+Refusal = ℕ × Bool
 
 -- the first number in the order whose fault is there; 0 for none
-abbrev pub firstOf : List Fault → ℕ
+abbrev pub firstOf : List Refusal → ℕ
 firstOf [] = 0
 firstOf ((n, here) ∷ l) = cond here n (firstOf l)
 
 -- a call that refuses by the first fault that is there and then leaves memory as it was before; else it gives its
 -- values and leaves memory as after
-abbrev pub called : List Fault → List ℕ → List ℕ → List ℕ → Outcome
+abbrev pub called : List Refusal → List ℕ → List ℕ → List ℕ → Outcome
 called [] values before after = gives values after
 called ((n, here) ∷ l) values before after = cond here (refuses n (length values) before) (called l values before after)

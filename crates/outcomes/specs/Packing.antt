@@ -8,7 +8,7 @@ use Rattle.bits.specs.Binary.{bitsOfBytes}
 use Rattle.bits.specs.Texts.{textOf, bitsOfText, inFront}
 use Rattle.keys.specs.Keys.{columnOf}
 use Rattle.outcomes.specs.Outcomes.{Outcome, called}
-use Rattle.outcomes.specs.Refusals.{shortBuffer, emptyKey, longKey, strangeKey, openKey, wrongColumn}
+use Rattle.outcomes.specs.Refusals.{shortBuffer, keyRefusals, wrongColumn}
 
 -- the column's bits, the zeros that fill it dropped
 unfoldable pub columnToText : List ℕ → List ℕ → Outcome
@@ -18,5 +18,4 @@ columnToText c m =
 
 unfoldable pub textToColumn : List ℕ → List ℕ → Outcome
 textToColumn k m =
-    called (emptyKey k ∷ longKey k ∷ strangeKey k ∷ openKey k ∷ shortBuffer 12 m ∷ []) [] m
-    (inFront (columnOf (bitsOfText k)) m)
+    called (keyRefusals k (shortBuffer 12 m ∷ [])) [] m (inFront (columnOf (bitsOfText k)) m)

@@ -8,7 +8,7 @@ use Rattle.families.specs.Published.{words1983}
 use Rattle.fractions.specs.Fractions.{Ratio, lowestTerms}
 use Rattle.keys.specs.Keys.{valueOfKey}
 use Rattle.outcomes.specs.Outcomes.{Outcome, called}
-use Rattle.outcomes.specs.Refusals.{zeroDenominator, emptyKey, longKey, strangeKey, openKey, outOfRange, wrongColumn}
+use Rattle.outcomes.specs.Refusals.{zeroDenominator, keyRefusals, outOfRange, wrongColumn}
 
 -- numerator and denominator
 abbrev pub terms : Ratio → List ℕ
@@ -17,7 +17,7 @@ terms r = r .num ∷ r .den ∷ []
 unfoldable pub readText : List ℕ → Outcome
 readText k =
     let r = valueOfKey words1983 (bitsOfText k) in
-    called (emptyKey k ∷ longKey k ∷ strangeKey k ∷ openKey k ∷ outOfRange r ∷ []) (terms r) [] []
+    called (keyRefusals k (outOfRange r ∷ [])) (terms r) [] []
 
 unfoldable pub readColumn : List ℕ → Outcome
 readColumn c =

@@ -6,22 +6,22 @@ use lib.Dec.{eqb, ltb}
 use lib.ListN.{length, getD}
 use Rattle.fractions.specs.Fractions.{Ratio}
 use Rattle.keys.specs.Size.{limit}
-use Rattle.outcomes.specs.Outcomes.{Fault}
+use Rattle.outcomes.specs.Outcomes.{Refusal}
 
 -- 1: denominator 0
-abbrev pub zeroDenominator : ℕ → Fault
+abbrev pub zeroDenominator : ℕ → Refusal
 zeroDenominator q = (1, eqb q 0)
 
 -- 2: output buffer shorter than n bytes
-abbrev pub shortBuffer : ℕ → List ℕ → Fault
+abbrev pub shortBuffer : ℕ → List ℕ → Refusal
 shortBuffer n m = (2, ltb (length m) n)
 
 -- 3: text key empty
-abbrev pub emptyKey : List ℕ → Fault
+abbrev pub emptyKey : List ℕ → Refusal
 emptyKey k = (3, eqb (length k) 0)
 
 -- 4: text key over 96 characters
-abbrev pub longKey : List ℕ → Fault
+abbrev pub longKey : List ℕ → Refusal
 longKey k = (4, ltb 96 (length k))
 
 -- the index of the first character that is neither 0 nor 1; the length where there is none
@@ -30,17 +30,21 @@ firstStrange [] = 0
 firstStrange (c ∷ k) = cond (eqb c 48 || eqb c 49) (suc (firstStrange k)) 0
 
 -- 5: a character that is neither 0 nor 1
-abbrev pub strangeKey : List ℕ → Fault
+abbrev pub strangeKey : List ℕ → Refusal
 strangeKey k = (5, ltb (firstStrange k) (length k))
 
 -- 6: last character 0 in a key other than the single 0
-abbrev pub openKey : List ℕ → Fault
+abbrev pub openKey : List ℕ → Refusal
 openKey k = (6, ltb 1 (length k) && eqb (getD k (length k - 1) 48) 48)
 
+-- a text key is judged by these four, and then by what else the call may refuse
+abbrev pub keyRefusals : List ℕ → List Refusal → List Refusal
+keyRefusals k more = emptyKey k ∷ longKey k ∷ strangeKey k ∷ openKey k ∷ more
+
 -- 7: numerator or denominator in lowest terms above 4294967295
-abbrev pub outOfRange : Ratio → Fault
+abbrev pub outOfRange : Ratio → Refusal
 outOfRange r = (7, ltb limit (r .num) || ltb limit (r .den))
 
 -- 9: column not of exactly 12 bytes
-abbrev pub wrongColumn : List ℕ → Fault
+abbrev pub wrongColumn : List ℕ → Refusal
 wrongColumn c = (9, not (eqb (length c) 12))

@@ -6,3 +6,4 @@ pub mod Runs
 pub mod Windows
 pub mod Begun
 pub mod Ended
+pub mod Callers

@@ -6,3 +6,4 @@ pub mod Appending
 pub mod Aligning
 pub mod Going
 pub mod Beginning
+pub mod Callers

@@ -1,0 +1,45 @@
+-- Strings to bytes and back.
+use mathlib.Core.Path.{_≡_, refl, sym, _∙_, ap}
+use mathlib.Core.Bool.{false}
+use mathlib.Core.List.{List, [], _∷_, _++_}
+use Prim.Native.Nat.{ℕ, zero, suc, _+_, _*_, _<_}
+use native.Mathlib.Omega.{arith}
+use lib.ListN.{length, drop, getD, length-append}
+use lib.Seq.{drop-at}
+use Rattle.bits.specs.Strings.{Bits, Same}
+use Rattle.bits.specs.Binary.{numberOf, firstBits, bytesOf, digitsIn, bitsOfBytes}
+use Rattle.bits.specs.Pieces.{same-rest, first-add, first-append, first-same, length-first, length-digits}
+use Rattle.bits.specs.Pieces.{number-of-digits, digits-of-number}
+
+-- one infinite string has one column
+pub bytes-same : (n : ℕ) (s t : Bits) → Same false s t → bytesOf n s ≡ bytesOf n t
+bytes-same zero s t e = refl
+bytes-same (suc n) s t e =
+    let rest = bytes-same n (drop 8 s) (drop 8 t) (same-rest false 8 s t e) in
+    λ i. numberOf (first-same false 8 s t e i) ∷ rest i
+
+pub bytes-length : (n : ℕ) (s : Bits) → length (bytesOf n s) ≡ n
+bytes-length zero s = refl
+bytes-length (suc n) s = ap suc (bytes-length n (drop 8 s))
+
+pub bits-length : (l : List ℕ) → length (bitsOfBytes l) ≡ 8 * length l
+bits-length [] = refl
+bits-length (c ∷ l) = rw (length-append, length-digits) (omega (arith, bits-length l))
+
+-- the bits of the bytes of a string are the string's first
+pub bits-of-bytes : (n : ℕ) (s : Bits) → bitsOfBytes (bytesOf n s) ≡ firstBits false (8 * n) s
+bits-of-bytes zero s = refl
+bits-of-bytes (suc n) s =
+    let size : 8 + 8 * n ≡ 8 * suc n = omega arith in
+    rw (rw length-first at (digits-of-number (firstBits false 8 s)), bits-of-bytes n (drop 8 s))
+    (sym (first-add false 8 (8 * n) s) ∙ ap (λ (m : ℕ). firstBits false m s) size)
+
+-- the bytes of the bits of bytes are those bytes
+pub bytes-of-bits : (l : List ℕ) → ((i : ℕ) → getD l i 0 < 256) → bytesOf (length l) (bitsOfBytes l) ≡ l
+bytes-of-bits [] h = refl
+bytes-of-bits (c ∷ l) h =
+    let d = digitsIn 8 c in
+    let first : firstBits false 8 (d ++ bitsOfBytes l) ≡ d = rw length-digits at (first-append false d (bitsOfBytes l)) in
+    let head : numberOf (firstBits false 8 (d ++ bitsOfBytes l)) ≡ c = rw first (number-of-digits 8 c (h 0)) in
+    let rest : drop 8 (d ++ bitsOfBytes l) ≡ bitsOfBytes l = drop-at d (bitsOfBytes l) 8 (length-digits 8 c) in
+    λ i. head i ∷ (ap (bytesOf (length l)) rest ∙ bytes-of-bits l (λ j. h (suc j))) i
