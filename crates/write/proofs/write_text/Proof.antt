@@ -1,46 +1,53 @@
+-- `write::write_text` meets its contract. Each way is what spelling and putting out gave, by `specs/Replies.antt`.
+use mathlib.Core.Path.{sym, _∙_}
+use Prim.Native.Nat.{_<_, _^_}
 use borrow.Author.Needs.{needs}
+use Rattle.write.specs.Replies.{text-zero, text-short, text-done}
 use Rattle.write.proofs.write_text.Statement.{statement}
 use Rattle.write.proofs.write_text.Tie as tie
-use Rattle.write.proofs.write_text.Reads as reads
-use Rattle.write.proofs.write_text.Lts as lts
-use Rattle.put.proofs.put_text.Reads as put-text-reads
-use Rattle.spell.proofs.spell.Reads as spell-reads
 
--- src/lib.rt:17:11
 spell-requires : tie.Need-spell-requires
 spell-requires c κs = search needs
 
--- src/lib.rt:18:37
 enum-told : tie.Need-enum-told
 enum-told c = search needs
 
--- src/lib.rt:19:24
 enum-known-block : tie.Need-enum-known-block
 enum-known-block c = search needs
 
--- src/lib.rt:20:17
 put-text-requires : tie.Need-put-text-requires
 put-text-requires c κs = search needs
 
--- src/lib.rt:22:17
+small : (c : tie.Start) → c .args .p < 2 ^ 32
+small c = search needs
+
+low : (c : tie.Start) → c .args .q < 2 ^ 32
+low c = search needs
+
+returns-zero : tie.Need-returns-2
+returns-zero c = text-zero _ _ _ (sym (c .enum-told .given .1) ∙ c .before .before .spell .ensures)
+
 same-length : tie.Need-same-length
 same-length c = search needs
 
--- src/lib.rt:22:17
-returns : tie.Need-returns
-returns c = ?
+returns-short : tie.Need-returns
+returns-short c =
+    let p = c .before .before .before in
+    let x = p .before .before .before in
+    let start = x .before .before .before .before in
+    text-short _ _ (small start) (low start) _ _ _ (sym (x .block .given .1) ∙ x .before .before .spell .ensures) _ _ _
+    (p .put-text .ensures) (c .if1 .taken)
 
--- src/lib.rt:14:1
-returns-2 : tie.Need-returns-2
-returns-2 c = ?
+same-length-again : tie.Need-same-length-2
+same-length-again c = search needs
 
--- src/lib.rt:14:1
-same-length-2 : tie.Need-same-length-2
-same-length-2 c = search needs
-
--- src/lib.rt:14:1
-returns-3 : tie.Need-returns-3
-returns-3 c = ?
+returns-key : tie.Need-returns-3
+returns-key c =
+    let p = c .before .before .before in
+    let x = p .before .before .before in
+    let start = x .before .before .before .before in
+    text-done _ _ (small start) (low start) _ _ _ (sym (x .block .given .1) ∙ x .before .before .spell .ensures) _ _ _
+    (p .put-text .ensures) (c .if1 .left)
 
 pub write-text-spec : {M : Type 1} → statement M
 write-text-spec =
@@ -51,7 +58,7 @@ write-text-spec =
     enum-known-block
     put-text-requires
     same-length
-    returns
-    returns-2
-    same-length-2
-    returns-3)
+    returns-short
+    returns-zero
+    same-length-again
+    returns-key)

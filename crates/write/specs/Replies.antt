@@ -1,0 +1,107 @@
+-- What writing answers, by what spelling and putting out gave.
+use mathlib.Core.Path.{_≡_, sym, _∙_, ap}
+use mathlib.Core.Bool.{false, cond}
+use mathlib.Core.List.{List, [], _∷_}
+use Prim.Native.Nat.{ℕ, _^_, _≤_, _<_}
+use native.Mathlib.Omega.{arith}
+use lib.Dec.{ltb}
+use lib.ListN.{length}
+use Rattle.bits.specs.Strings.{Bits, Same, closed}
+use Rattle.bits.specs.Texts.{textOf, inFront}
+use Rattle.bits.specs.Trim.{closed-equal}
+use Rattle.bits.specs.Columns.{bytes-same}
+use Rattle.blocks.specs.Blocks.{bitsOfBlock, blockOf}
+use Rattle.blocks.specs.Laws.{block-length, block-whole}
+use Rattle.blocks.specs.declared.Block.{Block}
+use Rattle.families.specs.Published.{words1983}
+use Rattle.keys.specs.Keys.{Canonical, keyOf, columnOf}
+use Rattle.keys.specs.Back.{not-canonical, closed-canonical, key-canonical}
+use Rattle.keys.specs.Size.{key-size}
+use Rattle.outcomes.specs.Outcomes.{Outcome, gives, refuses, called}
+use Rattle.outcomes.specs.Refusals.{zeroDenominator, shortBuffer}
+use Rattle.outcomes.specs.Buffers.{Put, called-short, called-done}
+use Rattle.outcomes.specs.Writing.{counts, writeText, writeColumn}
+use Rattle.put.specs.Putting.{textPut, columnPut}
+use Rattle.spell.specs.Callers.{Spells, told-zero, told-key}
+use Rattle.spell.specs.Spelling.{spelling}
+use Rattle.spell.specs.declared.Spelled.the-variants.{Key, ZeroDenominator}
+
+some : (k : Bits) → Canonical k → 1 ≤ length k
+some [] c = absurd (not-canonical c)
+some (b ∷ k) c = omega arith
+
+module _ (p q : ℕ) (small : p < 2 ^ 32) (low : q < 2 ^ 32) (b : Block) (n d : ℕ) (e : Key b n d ≡ spelling p q) where
+  abbrev key : Bits
+  key = keyOf words1983 p q
+
+  spells : Spells p q b n
+  spells = told-key p q [] [] [] [] b n d e .0
+
+  canonical : Canonical key
+  canonical = key-canonical words1983 p q (spells .positive)
+
+  -- the block holds the key
+  held : Same false (bitsOfBlock b) key
+  held = rw (spells .block) (block-whole key (key-size words1983 p q (spells .positive) (omega arith) (omega arith)))
+
+  key-held : closed (bitsOfBlock b) ≡ key
+  key-held =
+      closed-equal (bitsOfBlock b) key (omega (arith, block-length b)) (some key canonical) held
+      ∙ closed-canonical key canonical
+
+  -- t is put out into m, which wants size bytes
+  module _ (size : ℕ) (t m : List ℕ) (r : ℕ) (l : List ℕ) (put : Put (ltb (length m) size) m (inFront t m) (length key) r l) where
+    abbrev outcome : Outcome
+    outcome = called (zeroDenominator q ∷ shortBuffer size m ∷ []) (counts p q) m (inFront t m)
+
+    rest : called (shortBuffer size m ∷ []) (counts p q) m (inFront t m) ≡ outcome
+    rest = told-key p q (shortBuffer size m ∷ []) (counts p q) m (inFront t m) b n d e .1
+
+    short : r ≡ 0 → refuses 2 2 l ≡ outcome
+    short z = called-short size m (inFront t m) (counts p q) (length key) r l put (some key canonical) z ∙ rest
+
+    done : (r ≡ 0 → ⊥) → gives (r ∷ n ∷ []) l ≡ outcome
+    done z =
+        let (count, whole) = called-done size m (inFront t m) (counts p q) (length key) r l put z in
+        (λ i. gives (count i ∷ spells .quotients i ∷ []) l) ∙ whole ∙ rest
+
+  module _ (m : List ℕ) (r : ℕ) (l : List ℕ) where
+    abbrev TextPut : Type 0
+    TextPut = _≡_ {A = ℕ × List ℕ} (r, l) (textPut (bitsOfBlock b) m)
+
+    text : TextPut → Put (ltb (length m) 96) m (inFront (textOf key) m) (length key) r l
+    unfolding textPut
+    text put = rw key-held at put
+
+    pub text-short : TextPut → r ≡ 0 → refuses 2 2 l ≡ writeText p q m
+    unfolding writeText
+    text-short put = short 96 (textOf key) m r l (text put)
+
+    pub text-done : TextPut → (r ≡ 0 → ⊥) → gives (r ∷ n ∷ []) l ≡ writeText p q m
+    unfolding writeText
+    text-done put = done 96 (textOf key) m r l (text put)
+
+    abbrev ColumnPut : Type 0
+    ColumnPut = _≡_ {A = ℕ × List ℕ} (r, l) (columnPut (bitsOfBlock b) m)
+
+    column : ColumnPut → Put (ltb (length m) 12) m (inFront (columnOf key) m) (length key) r l
+    unfolding columnPut
+    column put =
+        let bytes = bytes-same 12 (bitsOfBlock b) key held in
+        put ∙ λ i. cond (ltb (length m) 12) (0, m) (length (key-held i), inFront (bytes i) m)
+
+    pub column-short : ColumnPut → r ≡ 0 → refuses 2 2 l ≡ writeColumn p q m
+    unfolding writeColumn
+    column-short put = short 12 (columnOf key) m r l (column put)
+
+    pub column-done : ColumnPut → (r ≡ 0 → ⊥) → gives (r ∷ n ∷ []) l ≡ writeColumn p q m
+    unfolding writeColumn
+    column-done put = done 12 (columnOf key) m r l (column put)
+
+pub text-zero : (p q : ℕ) (m : List ℕ) → ZeroDenominator ≡ spelling p q → refuses 1 2 m ≡ writeText p q m
+unfolding writeText
+text-zero p q m = told-zero p q (shortBuffer 96 m ∷ []) (counts p q) m (inFront (textOf (keyOf words1983 p q)) m)
+
+pub column-zero : (p q : ℕ) (m : List ℕ) → ZeroDenominator ≡ spelling p q → refuses 1 2 m ≡ writeColumn p q m
+unfolding writeColumn
+column-zero p q m = told-zero p q (shortBuffer 12 m ∷ []) (counts p q) m (inFront (columnOf (keyOf words1983 p q)) m)
