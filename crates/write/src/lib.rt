@@ -16,12 +16,19 @@ pub fn write_text(p: u32, q: u32, out: &mut [u8]) -> Written
 {
     match spell::spell(p, q) {
         Spelled::ZeroDenominator => Written::ZeroDenominator,
-        Spelled::Key { block, quotients, divisor: _ } => {
+        Spelled::Key {
+            block,
+            quotients,
+            divisor: _,
+        } => {
             let characters = put::put_text(block, out);
             if characters == 0 {
                 return Written::ShortBuffer;
             }
-            Written::Key { characters, quotients }
+            Written::Key {
+                characters,
+                quotients,
+            }
         }
     }
 }
@@ -32,12 +39,19 @@ pub fn write_column(p: u32, q: u32, out: &mut [u8]) -> Written
 {
     match spell::spell(p, q) {
         Spelled::ZeroDenominator => Written::ZeroDenominator,
-        Spelled::Key { block, quotients, divisor: _ } => {
+        Spelled::Key {
+            block,
+            quotients,
+            divisor: _,
+        } => {
             let characters = put::put_column(block, out);
             if characters == 0 {
                 return Written::ShortBuffer;
             }
-            Written::Key { characters, quotients }
+            Written::Key {
+                characters,
+                quotients,
+            }
         }
     }
 }

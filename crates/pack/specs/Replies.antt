@@ -1,0 +1,102 @@
+-- What changing between column and text answers, by what judging, loading and putting out gave.
+use mathlib.Core.Path.{_≡_, _∙_}
+use mathlib.Core.Bool.{false, cond}
+use mathlib.Core.List.{List, [], _∷_}
+use Prim.Native.Nat.{ℕ, _≤_}
+use native.Mathlib.Omega.{arith}
+use lib.Dec.{ltb}
+use lib.ListN.{length, length-map}
+use Rattle.bits.specs.Strings as strings
+use Rattle.bits.specs.Binary.{bytesOf, bitsOfBytes}
+use Rattle.bits.specs.Texts.{textOf, bitsOfText, inFront}
+use Rattle.bits.specs.Trim.{closed-some, closed-equal}
+use Rattle.bits.specs.Columns.{bytes-same, bits-length}
+use Rattle.blocks.specs.Blocks.{bitsOfBlock, blockOf}
+use Rattle.blocks.specs.Laws.{block-length, block-whole}
+use Rattle.blocks.specs.declared.Block.{Block}
+use Rattle.load.specs.Loading.{loaded}
+use Rattle.load.specs.Callers.{told-wrong, told-bits}
+use Rattle.load.specs.declared.Loaded.the-variants.{Bits, WrongColumn}
+use Rattle.outcomes.specs.Outcomes.{Outcome, gives, refuses, called}
+use Rattle.outcomes.specs.Refusals.{shortBuffer}
+use Rattle.outcomes.specs.Buffers.{Put, called-short, called-done}
+use Rattle.outcomes.specs.Packing.{columnToText, textToColumn}
+use Rattle.put.specs.Putting.{textPut, columnPut}
+use Rattle.scan.specs.Judging.{judgement, numberOfFault}
+use Rattle.scan.specs.Callers.{told-faulty, told-key}
+use Rattle.scan.specs.declared.Judged.the-variants.{Key, Faulty}
+use Rattle.scan.specs.declared.Fault.{Fault}
+
+module _ (c m : List ℕ) where
+  abbrev key : strings.Bits
+  key = strings.closed (bitsOfBytes c)
+
+  abbrev after : List ℕ
+  after = inFront (textOf key) m
+
+  pub column-wrong : WrongColumn ≡ loaded c → refuses 9 1 m ≡ columnToText c m
+  unfolding columnToText
+  column-wrong = told-wrong c (shortBuffer 96 m ∷ []) (length key ∷ []) m after
+
+  module _ (b : Block) (e : Bits b ≡ loaded c) (r : ℕ) (l : List ℕ)
+      (put : _≡_ {A = ℕ × List ℕ} (r, l) (textPut (bitsOfBlock b) m)) where
+    told : (length c ≡ 12) × ((b ≡ blockOf (bitsOfBytes c))
+        × (called (shortBuffer 96 m ∷ []) (length key ∷ []) m after ≡ columnToText c m))
+    unfolding columnToText
+    told = told-bits c (shortBuffer 96 m ∷ []) (length key ∷ []) m after b e
+
+    size : length (bitsOfBytes c) ≡ 96
+    size = omega (arith, bits-length c, told .0)
+
+    -- the block's key is the column's
+    held : strings.closed (bitsOfBlock b) ≡ key
+    held =
+        closed-equal (bitsOfBlock b) (bitsOfBytes c) (omega (arith, block-length b)) (omega (arith, size))
+        (rw (told .1 .0) (block-whole (bitsOfBytes c) (omega (arith, size))))
+
+    put-key : Put (ltb (length m) 96) m after (length key) r l
+    unfolding textPut
+    put-key = rw held at put
+
+    pub text-short : r ≡ 0 → refuses 2 1 l ≡ columnToText c m
+    text-short z =
+        called-short 96 m after (length key ∷ []) (length key) r l put-key
+        (closed-some (bitsOfBytes c) (omega (arith, size))) z
+        ∙ told .1 .1
+
+    pub text-done : (r ≡ 0 → ⊥) → gives (r ∷ []) l ≡ columnToText c m
+    text-done z =
+        let (count, whole) = called-done 96 m after (length key ∷ []) (length key) r l put-key z in
+        (λ i. gives (count i ∷ []) l) ∙ whole ∙ told .1 .1
+
+module _ (k m : List ℕ) where
+  abbrev stored : List ℕ
+  stored = inFront (bytesOf 12 (bitsOfText k)) m
+
+  pub text-faulty : (f : Fault) (at : ℕ) → Faulty f at ≡ judgement k → refuses (numberOfFault f) 0 m ≡ textToColumn k m
+  unfolding textToColumn
+  text-faulty = told-faulty k (shortBuffer 12 m ∷ []) [] m stored
+
+  module _ (e : Key ≡ judgement k) (b : Block) (loads : b ≡ blockOf (bitsOfText k)) (r : ℕ) (l : List ℕ)
+      (put : _≡_ {A = ℕ × List ℕ} (r, l) (columnPut (bitsOfBlock b) m)) where
+    judged : (length k ≤ 96) × (called (shortBuffer 12 m ∷ []) [] m stored ≡ textToColumn k m)
+    unfolding textToColumn
+    judged = told-key k (shortBuffer 12 m ∷ []) [] m stored e
+
+    put-column : Put (ltb (length m) 12) m stored (length (strings.closed (bitsOfBlock b))) r l
+    unfolding columnPut
+    put-column =
+        let same : strings.Same false (bitsOfBlock b) (bitsOfText k) =
+        rw loads (block-whole (bitsOfText k) (rw length-map (judged .0))) in
+        let bytes = bytes-same 12 (bitsOfBlock b) (bitsOfText k) same in
+        put ∙ λ i. cond (ltb (length m) 12) (0, m) (length (strings.closed (bitsOfBlock b)), inFront (bytes i) m)
+
+    pub column-short : r ≡ 0 → refuses 2 0 l ≡ textToColumn k m
+    column-short z =
+        called-short 12 m stored [] (length (strings.closed (bitsOfBlock b))) r l put-column
+        (closed-some (bitsOfBlock b) (omega (arith, block-length b))) z
+        ∙ judged .1
+
+    pub column-done : (r ≡ 0 → ⊥) → gives [] l ≡ textToColumn k m
+    column-done z =
+        called-done 12 m stored [] (length (strings.closed (bitsOfBlock b))) r l put-column z .1 ∙ judged .1
