@@ -3,4 +3,8 @@ pub mod Refusals
 pub mod Writing
 pub mod Reading
 pub mod Packing
+pub mod Laws
 pub mod Buffers
+pub mod TextKeys
+pub mod RoundTrips
+pub mod Rewriting

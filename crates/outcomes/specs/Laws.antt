@@ -1,0 +1,61 @@
+-- What holds of every call, whatever its order of refusals.
+use mathlib.Core.Path.{_≡_, refl, sym, _∙_, ap}
+use mathlib.Core.Bool.{Bool, true, false, cond}
+use mathlib.Core.List.{List, [], _∷_}
+use Prim.Native.Nat.{ℕ, _≤_}
+use native.Mathlib.Omega.{arith}
+use lib.ListN.{length, replicate, length-replicate}
+use Rattle.outcomes.specs.Outcomes.{Outcome, Refusal, gives, firstOf, called}
+
+-- the number is the first in the order whose fault is there
+pub called-number : (order : List Refusal) (values before after : List ℕ)
+    → (called order values before after) .refusal ≡ firstOf order
+called-number [] v b a = refl
+called-number ((n, true) ∷ l) v b a = refl
+called-number ((n, false) ∷ l) v b a = called-number l v b a
+
+-- a refused call leaves memory as it was, and its values are zero
+pub called-kept : (order : List Refusal) (values before after : List ℕ)
+    → ((called order values before after) .refusal ≡ 0 → ⊥)
+    → ((called order values before after) .memory ≡ before)
+    × ((called order values before after) .values
+    ≡ replicate (length ((called order values before after) .values)) 0)
+called-kept [] v b a h = absurd (h refl)
+called-kept ((n, true) ∷ l) v b a h = (refl, rw length-replicate)
+called-kept ((n, false) ∷ l) v b a h = called-kept l v b a h
+
+-- no fault of the order is there
+abbrev pub Clear : List Refusal → Type 0
+Clear [] = Unit {0}
+Clear ((n, here) ∷ l) = (here ≡ false) × Clear l
+
+pub clear-called : (order : List Refusal) (values before after : List ℕ) → Clear order
+    → called order values before after ≡ gives values after
+clear-called [] v b a c = refl
+clear-called ((n, here) ∷ l) v b a (e, c) = rw e (clear-called l v b a c)
+
+-- every number of the order is at least 1
+abbrev pub Numbered : List Refusal → Type 0
+Numbered [] = Unit {0}
+Numbered ((n, here) ∷ l) = (1 ≤ n) × Numbered l
+
+clear-first : (order : List Refusal) → Numbered order → firstOf order ≡ 0 → Clear order
+clear-first [] k e = tt
+clear-first ((n, true) ∷ l) (k, r) e = absurd (omega (arith, e))
+clear-first ((n, false) ∷ l) (k, r) e = (refl, clear-first l r e)
+
+-- a call that gives something met no fault, and gives its values
+pub gives-clear : (order : List Refusal) (values before after : List ℕ) → Numbered order → (v m : List ℕ)
+    → called order values before after ≡ gives v m → Clear order × ((values ≡ v) × (after ≡ m))
+gives-clear order values before after k v m e =
+    let none : firstOf order ≡ 0 =
+        sym (called-number order values before after) ∙ ap (λ (o : Outcome). o .refusal) e in
+    let c = clear-first order k none in
+    let same : gives values after ≡ gives v m = sym (clear-called order values before after c) ∙ e in
+    (c, (ap (λ (o : Outcome). o .values) same, ap (λ (o : Outcome). o .memory) same))
+
+-- two answers that mean the same are one, where the number and the values tell the answer
+pub same-answer : {A : Type 0} (meaning : A → List ℕ → Outcome) (answerOf : Outcome → A)
+    → ((r : A) (m : List ℕ) → answerOf (meaning r m) ≡ r)
+    → (r s : A) (m n : List ℕ) → meaning r m ≡ meaning s n → r ≡ s
+same-answer meaning answerOf back r s m n e = sym (back r m) ∙ ap answerOf e ∙ back s n
