@@ -49,7 +49,7 @@ pub gives-clear : (order : List Refusal) (values before after : List ℕ) → Nu
     → called order values before after ≡ gives v m → Clear order × ((values ≡ v) × (after ≡ m))
 gives-clear order values before after k v m e =
     let none : firstOf order ≡ 0 =
-        sym (called-number order values before after) ∙ ap (λ (o : Outcome). o .refusal) e in
+    sym (called-number order values before after) ∙ ap (λ (o : Outcome). o .refusal) e in
     let c = clear-first order k none in
     let same : gives values after ≡ gives v m = sym (clear-called order values before after c) ∙ e in
     (c, (ap (λ (o : Outcome). o .values) same, ap (λ (o : Outcome). o .memory) same))

@@ -40,8 +40,8 @@ text-again k m p q e h =
     let v = valueOfKey words1983 (bitsOfText k) in
     let order = keyRefusals k (outOfRange v ∷ []) in
     let (clear, (same, none)) =
-        gives-clear order (terms v) [] []
-        (lit≤ tt, (lit≤ tt, (lit≤ tt, (lit≤ tt, (lit≤ tt, tt))))) (p ∷ q ∷ []) [] e in
+    gives-clear order (terms v) [] []
+    (lit≤ tt, (lit≤ tt, (lit≤ tt, (lit≤ tt, (lit≤ tt, tt))))) (p ∷ q ∷ []) [] e in
     let (canonical, (short, text)) = clear-canonical k (judged-first k (outOfRange v ∷ []) clear .0) in
     let value = same-terms v p q same in
     let key : keyOf words1983 p q ≡ bitsOfText k = value-key words1983 (bitsOfText k) p q canonical value in
@@ -71,10 +71,10 @@ column-again c m p q bytes e h =
     let s = bitsOfBytes c in
     let v = valueOfKey words1983 s in
     let ((twelve, range), (same, none)) =
-        gives-clear (wrongColumn c ∷ outOfRange v ∷ []) (terms v) [] [] (lit≤ tt, (lit≤ tt, tt)) (p ∷ q ∷ []) [] e in
+    gives-clear (wrongColumn c ∷ outOfRange v ∷ []) (terms v) [] [] (lit≤ tt, (lit≤ tt, tt)) (p ∷ q ∷ []) [] e in
     let size = eqb-true (length c) 12 (not-false (eqb (length c) 12) twelve) in
     let value : valueOfKey words1983 (closed s) ≡ p over q =
-        value-same words1983 (closed s) s (closed-same s) ∙ same-terms v p q same in
+    value-same words1983 (closed s) s (closed-same s) ∙ same-terms v p q same in
     let key = value-key words1983 (closed s) p q (column-key c size) value in
     let whole = ap columnOf key ∙ column-of-key c size bytes in
     column-written p q m (positive-of (closed s) p q value) h ∙ λ i. gives (counts p q) (inFront (whole i) m)
@@ -107,9 +107,9 @@ packed-back k m clear h =
     let size : length s ≡ length k = length-map k (λ c. eqb c 49) in
     let (canonical, (short, text)) = clear-canonical k clear in
     let key : closed (bitsOfBytes (columnOf s)) ≡ s =
-        closed-equal (bitsOfBytes (columnOf s)) s (omega (arith, bits-length (columnOf s), bytes-length 12 s))
-        (omega (arith, eqb-false (length k) 0 (clear .0))) (column-same s (omega arith))
-        ∙ closed-canonical s canonical in
+    closed-equal (bitsOfBytes (columnOf s)) s (omega (arith, bits-length (columnOf s), bytes-length 12 s))
+    (omega (arith, eqb-false (length k) 0 (clear .0))) (column-same s (omega arith))
+    ∙ closed-canonical s canonical in
     let whole : textOfColumn (columnOf s) ≡ k = ap textOf key ∙ text in
     column-unpacked (columnOf s) m (bytes-length 12 s) h ∙ λ i. gives (length (whole i) ∷ []) (inFront (whole i) m)
 

@@ -84,9 +84,10 @@ column-same k h i = ap (λ (s : Bits). getD s i false) (bits-of-bytes 12 k) ∙ 
 lowest-small : (p q : ℕ) → 1 ≤ q → ((lowestTerms p q) .num ≤ p) × ((lowestTerms p q) .den ≤ q)
 lowest-small p q h =
     let v = lowestTerms p q in
-    let s = rw (usual-value p q h) at (usual-scaled p q h) in
-    (omega (arith, s .above, mul-le-mul-right (v .num) (s .positive)),
-    omega (arith, s .below, mul-le-mul-right (v .den) (s .positive)))
+    let s = rw (usual-value p q h) at (usual-scaled p q h) in (
+      omega (arith, s .above, mul-le-mul-right (v .num) (s .positive)),
+      omega (arith, s .below, mul-le-mul-right (v .den) (s .positive)),
+    )
 
 -- what was written is read back in lowest terms
 module _ (p q : ℕ) (positive : 1 ≤ q) (small : p ≤ limit) (low : q ≤ limit) where

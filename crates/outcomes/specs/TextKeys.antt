@@ -74,11 +74,16 @@ closed-last s (inr (t, e)) = by-size (ltb 1 (length (textOf s)))
 -- the text of a canonical key
 pub text-clear : (s : Bits) → Canonical s → length s ≤ 96 → Clear (keyRefusals (textOf s) [])
 text-clear s c h =
-    let size : length (textOf s) ≡ length s = length-map s charOf in
-    (ne-eqb (length (textOf s)) 0 (λ e. some s c (sym size ∙ e)),
-    (le-ltb 96 (length (textOf s)) (omega arith),
-    (le-ltb (firstStrange (textOf s)) (length (textOf s)) (omega (arith, text-plain s)),
-    (closed-last s c, tt))))
+    let size : length (textOf s) ≡ length s = length-map s charOf in (
+      ne-eqb (length (textOf s)) 0 (λ e. some s c (sym size ∙ e)),
+      (
+        le-ltb 96 (length (textOf s)) (omega arith),
+        (
+          le-ltb (firstStrange (textOf s)) (length (textOf s)) (omega (arith, text-plain s)),
+          (closed-last s c, tt),
+        ),
+      ),
+    )
   where
     some : (s : Bits) → Canonical s → length s ≡ 0 → ⊥
     some [] c e = not-canonical c
@@ -94,6 +99,7 @@ last-canonical (a ∷ b ∷ s) (e, (f, (g, (h, u)))) = inr (one-last a (b ∷ s)
 pub clear-canonical : (k : List ℕ) → Clear (keyRefusals k [])
     → Canonical (bitsOfText k) × ((length k ≤ 96) × (textOf (bitsOfText k) ≡ k))
 clear-canonical k (e, (f, (g, r))) =
-    let text = text-of-bits k (ltb-false (firstStrange k) (length k) g) in
-    (last-canonical (bitsOfText k) (subst (λ (l : List ℕ). Clear (keyRefusals l [])) (sym text) (e, (f, (g, r)))),
-    (ltb-false 96 (length k) f, text))
+    let text = text-of-bits k (ltb-false (firstStrange k) (length k) g) in (
+      last-canonical (bitsOfText k) (subst (λ (l : List ℕ). Clear (keyRefusals l [])) (sym text) (e, (f, (g, r)))),
+      (ltb-false 96 (length k) f, text),
+    )

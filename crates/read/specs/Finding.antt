@@ -3,7 +3,7 @@
 use mathlib.Core.Path.{_≡_}
 use mathlib.Core.Bool.{Bool, true, false, cond}
 use mathlib.Core.List.{List, [], _∷_}
-use Prim.Native.Nat.{ℕ, _+_, _*_, _^_, _≤_, _<_}
+use Prim.Native.Nat.{ℕ, _+_, _*_, _/_, _%_, _^_, _≤_, _<_}
 use lib.ListN.{length}
 use Rattle.bits.specs.Strings.{Bits, turn}
 use Rattle.blocks.specs.Blocks.{bitsOfBlock}
@@ -14,12 +14,15 @@ use Rattle.fractions.specs.Convergents.{convergent, forward}
 use Rattle.keys.specs.Keys.{read, valueOfKey}
 use Rattle.outcomes.specs.Refusals.{outOfRange}
 use Rattle.scan.specs.Taking.{leftAt}
-use Rattle.read.specs.declared.find.Convergent.{Convergent}
 use Rattle.read.specs.declared.find.Found.{Found}
 use Rattle.read.specs.declared.find.Found.the-variants as found
 
-abbrev pub ratioOf : Convergent → Ratio
-ratioOf c = (c .num) over (c .den)
+-- a ratio in one number, denominator above numerator, and back
+abbrev pub packed : Ratio → ℕ
+packed w = w .den * 2 ^ 32 + w .num
+
+abbrev pub ratioIn : ℕ → Ratio
+ratioIn n = (n % 2 ^ 32) over (n / 2 ^ 32)
 
 abbrev pub bitsIn : ℕ → ℕ → Bits
 bitsIn high low = bitsOfBlock (record { high = high; low = low })
@@ -32,10 +35,14 @@ valueIn s = valueOfKey words1983 s
 abbrev pub isOver : Ratio → Bool
 isOver r = outOfRange r .1
 
--- the quotients l read on from the convergents u and, before that, v, with the characters used: the last convergent in
--- one number, denominator above numerator; or, where one is over the limit, the characters used before its quotient
+-- a ratio in one number, or 0 where it is over the limit
+unfoldable pub limited : Ratio → ℕ
+limited w = cond (isOver w) 0 (packed w)
+
+-- the quotients l read on from the convergents u and, before that, v, with the characters used: the last convergent,
+-- or, where one is over the limit, the characters used before its quotient
 unfoldable pub foundFrom : ℕ → Ratio → Ratio → List ℕ → ℕ
-foundFrom used u v [] = u .den * 2 ^ 32 + u .num
+foundFrom used u v [] = packed u
 foundFrom used u v (a ∷ l) =
     let w = convergent a u v in cond (isOver w) used (foundFrom (used + length (wordOf a)) w u l)
 
@@ -43,10 +50,10 @@ foundFrom used u v (a ∷ l) =
 abbrev pub quotientsAt : Bits → ℕ → Bool → List ℕ
 quotientsAt s used z = read words1983 z (leftAt s used z)
 
--- a place from which a convergent that isn't 0/0 goes on, at most the given characters used
-pub record Ready (most used : ℕ) (u : Ratio) : Type 0 where
+-- a place from which a convergent u goes on, at most the given characters used
+pub record Ready (most used u : ℕ) : Type 0 where
   pub few : used ≤ most
-  pub some : 1 ≤ u .num + u .den
+  pub some : 1 ≤ u
 
 -- r is what is found in s from a place on, and below 2^32 where the last convergent is over the limit
 pub record Finds (s : Bits) (used : ℕ) (z : Bool) (u v : Ratio) (r : ℕ) : Type 0 where

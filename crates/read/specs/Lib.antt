@@ -1,5 +1,6 @@
 pub mod Answers
 pub mod Finding
+pub mod Next
 pub mod Steps
 pub mod Range
 pub mod Replies

@@ -1,12 +1,10 @@
 -- The number found says the value, or that it is over the limit: it is from 2^32 on where the value isn't.
 use mathlib.Core.Path.{_≡_, refl, _∙_, ap, subst}
-use mathlib.Core.Bool.{Bool, true, false, not, cond, _||_, true≢false}
+use mathlib.Core.Bool.{Bool, true, false, not, cond}
 use mathlib.Core.List.{List, [], _∷_, _++_}
-use Prim.Native.Nat.{ℕ, suc, _+_, _*_, _/_, _%_, _^_, _≤_, _<_}
+use Prim.Native.Nat.{ℕ, suc, _+_, _/_, _%_, _^_, _≤_, _<_}
 use native.Mathlib.Omega.{arith}
-use borrow.Author.Tests.{ltb-false}
-use lib.Dec.{ltb, eqb}
-use lib.Pow.{high as high-part, low as low-part}
+use lib.Dec.{eqb}
 use lib.ListN.{length}
 use Rattle.bits.specs.Strings.{Bits, turn}
 use Rattle.bits.specs.Binary.{digitsIn}
@@ -17,26 +15,15 @@ use Rattle.families.specs.Published.{words1983}
 use Rattle.fractions.specs.Fractions.{Ratio, _over_, Quotients}
 use Rattle.fractions.specs.Convergents.{convergent, forward, forward-value, forward-grows}
 use Rattle.keys.specs.Keys.{read}
-use Rattle.keys.specs.Size.{limit}
 use Rattle.keys.specs.Reading.{read-spells}
 use Rattle.keys.specs.Back.{value-denominator}
 use Rattle.read.specs.declared.find.Found.the-variants as found
-use Rattle.read.specs.Finding.{valueIn, isOver, foundFrom, Finds, foundIn, foundOf}
-use Rattle.read.specs.Steps.{not-over}
-
--- a ratio that isn't over the limit has both terms within it
-within : (r : Ratio) → isOver r ≡ false → (r .num ≤ limit) × (r .den ≤ limit)
-within r e = by-tests (ltb limit (r .num)) (ltb limit (r .den)) refl refl e
-  where
-    by-tests : (b o : Bool) → ltb limit (r .num) ≡ b → ltb limit (r .den) ≡ o → (b || o) ≡ false
-        → (r .num ≤ limit) × (r .den ≤ limit)
-    by-tests true o p q e = absurd (true≢false e)
-    by-tests false true p q e = absurd (true≢false e)
-    by-tests false false p q e = (ltb-false limit (r .num) p, ltb-false limit (r .den) q)
+use Rattle.read.specs.Finding.{packed, valueIn, isOver, foundFrom, Finds, foundIn, foundOf}
+use Rattle.read.specs.Next.{not-over, within, ratio-packed}
 
 -- where the last convergent isn't over the limit, none is, and it is found
 found-within : (z : Bool) (l : List ℕ) (used : ℕ) (u v : Ratio) → Quotients z l → isOver (forward u v l) ≡ false
-    → foundFrom used u v l ≡ (forward u v l) .den * 2 ^ 32 + (forward u v l) .num
+    → foundFrom used u v l ≡ packed (forward u v l)
 unfolding foundFrom
 found-within z [] used u v q e = refl
 found-within z (a ∷ l) used u v (h, q) e =
@@ -49,7 +36,7 @@ found-within z (a ∷ l) used u v (h, q) e =
 pub record Settles (s : Bits) (r : ℕ) : Type 0 where
   pub number : r ≡ foundIn s
   pub low : isOver (valueIn s) ≡ true → r < 2 ^ 32
-  pub value : isOver (valueIn s) ≡ false → r ≡ (valueIn s) .den * 2 ^ 32 + (valueIn s) .num
+  pub value : isOver (valueIn s) ≡ false → r ≡ packed (valueIn s)
 
 -- l are the quotients of s after its first character, which gives u and v
 settles : (s : Bits) (r : ℕ) (z : Bool) (l : List ℕ) (u v : Ratio) → Quotients z l → forward u v l ≡ valueIn s
@@ -57,7 +44,7 @@ settles : (s : Bits) (r : ℕ) (z : Bool) (l : List ℕ) (u v : Ratio) → Quoti
 settles s r z l u v q e n f o = record {
   number = n ∙ f;
   low = subst (λ (w : Ratio). isOver w ≡ true → r < 2 ^ 32) e o;
-  value = subst (λ (w : Ratio). isOver w ≡ false → r ≡ w .den * 2 ^ 32 + w .num) e
+  value = subst (λ (w : Ratio). isOver w ≡ false → r ≡ packed w) e
       (λ h. n ∙ found-within z l 1 u v q h);
 }
 
@@ -118,6 +105,5 @@ module _ (s : Bits) (r : ℕ) (f : Settles s r) where
           → found.Ratio (r % 2 ^ 32) (r / 2 ^ 32) ≡ cond o (found.Over (foundIn s)) (found.Ratio (v .num) (v .den))
       by-test true e = absurd (omega (arith, f .low e))
       by-test false e =
-          let (n, d) = within v e in
-          let l : v .num < 2 ^ 32 = omega arith in
-          rw (f .value e) (λ i. found.Ratio (low-part (v .den) 32 l i) (high-part (v .den) 32 l i))
+          rw (f .value e)
+          (ap (λ (w : Ratio). found.Ratio (w .num) (w .den)) (ratio-packed v ((within v e) .0)))

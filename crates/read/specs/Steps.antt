@@ -1,13 +1,13 @@
 -- One step of reading by forward convergents: what is found from a place on, by what the word there is.
 use mathlib.Core.Path.{_≡_, refl, sym, _∙_, ap}
-use mathlib.Core.Bool.{Bool, true, false, not, cond, _||_, true≢false}
-use mathlib.Core.Logic.{_⊎_, inl, inr}
+use mathlib.Core.Bool.{Bool, true, false, not, cond, true≢false}
+use mathlib.Core.Logic.{inl, inr}
 use mathlib.Core.List.{[], _∷_}
-use Prim.Native.Nat.{ℕ, zero, suc, _+_, _*_, _^_, _≤_, _<_}
+use Prim.Native.Nat.{ℕ, zero, suc, _+_, _/_, _%_, _^_, _≤_, _<_}
 use native.Mathlib.Nat.{mul-le-mul, mul-le-mul-left, mul-le-mul-right}
 use native.Mathlib.Decide.{decLt}
 use native.Mathlib.Omega.{arith}
-use borrow.Author.Tests.{lt-ltb, le-ltb, ltb-true, ltb-false}
+use borrow.Author.Tests.{ltb-true, ltb-false}
 use lib.Dec.{ltb}
 use lib.Pow.{pow-mono}
 use lib.ListN.{length, drop, drop-of-length-le}
@@ -19,14 +19,15 @@ use Rattle.families.specs.Words.{wordOf, firstNumber}
 use Rattle.families.specs.Complete.{word-complete}
 use Rattle.families.specs.Measured.{word-short}
 use Rattle.families.specs.Published.{words1983}
-use Rattle.fractions.specs.Fractions.{Ratio, _over_}
+use Rattle.fractions.specs.Fractions.{Ratio}
 use Rattle.fractions.specs.Convergents.{convergent}
 use Rattle.keys.specs.Size.{limit}
 use Rattle.keys.specs.Reading.{read-end, read-next, word-positive}
 use Rattle.scan.specs.Taking.{leftAt, takenFrom}
 use Rattle.scan.specs.declared.Taken.{Taken}
 use Rattle.scan.specs.declared.Taken.the-variants.{Quotient, Long, End}
-use Rattle.read.specs.Finding.{isOver, foundFrom, quotientsAt, Ready, Finds}
+use Rattle.read.specs.Finding.{ratioIn, isOver, limited, foundFrom, quotientsAt, Finds}
+use Rattle.read.specs.Next.{term-over, not-over, none-over, some-within}
 
 turn-drop : (n : ℕ) (s : Bits) → drop n (turn s) ≡ turn (drop n s)
 turn-drop zero s = refl
@@ -44,19 +45,19 @@ next-quotients : (s : Bits) (used : ℕ) (z : Bool) → ended z (leftAt s used z
 next-quotients s used z g = read-next words1983 z (leftAt s used z) g ∙ rw left-next refl
 
 -- what each answer of taking a word at a place tells: it is that of a, and has n characters
-pub record Goes (s : Bits) (used : ℕ) (z : Bool) (a n : ℕ) : Type 0 where
+record Goes (s : Bits) (used : ℕ) (z : Bool) (a n : ℕ) : Type 0 where
   pub going : ended z (leftAt s used z) ≡ false
   pub first : firstNumber z (leftAt s used z) ≡ a
   pub positive : 1 ≤ a
   pub small : a ≤ limit
   pub count : n ≡ length (wordOf a)
 
-abbrev pub Told : Bits → ℕ → Bool → Taken → Type 0
+abbrev Told : Bits → ℕ → Bool → Taken → Type 0
 Told s used z (Quotient a n) = Goes s used z a n
 Told s used z Long = (ended z (leftAt s used z) ≡ false) × (limit < firstNumber z (leftAt s used z))
 Told s used z End = ended z (leftAt s used z) ≡ true
 
-pub told : (s : Bits) (used : ℕ) (z : Bool) (t : Taken) → t ≡ takenFrom z (leftAt s used z) → Told s used z t
+told : (s : Bits) (used : ℕ) (z : Bool) (t : Taken) → t ≡ takenFrom z (leftAt s used z) → Told s used z t
 unfolding takenFrom
 told s used z t e = rw e (by-tests (ended z (leftAt s used z)) (ltb limit a) refl refl)
   where
@@ -75,97 +76,80 @@ told s used z t e = rw e (by-tests (ended z (leftAt s used z)) (ltb limit a) ref
       count = refl;
     }
 
--- a word of a number within the limit has at least one character, and at most 64
-pub word-size : {s : Bits} {used : ℕ} {z : Bool} {a n : ℕ} → Goes s used z a n → (1 ≤ n) × (n ≤ 64)
-word-size {a = a} g =
-    let h = g .positive in
-    rw (g .count) (word-positive words1983 a h, by-size h (g .small) (decLt 64 (length (wordOf a))))
-  where
-    by-size : 1 ≤ a → a ≤ limit → Dec (64 < length (wordOf a)) → length (wordOf a) ≤ 64
-    by-size h l (yes k) = absurd (omega (arith, word-short a h, mul-le-mul l l, pow-mono k))
-    by-size h l (no k) = omega arith
-
--- no turned word begins past the end
-pub turned-within : {s : Bits} {used a n : ℕ} → Goes s used true a n → used < length s
-turned-within {s} {used} g = by-size (decLt used (length s)) (g .going)
-  where
-    by-size : Dec (used < length s) → ended true (leftAt s used true) ≡ false → used < length s
-    by-size (yes h) e = h
-    by-size (no h) e =
-        let k : length s ≤ used = omega arith in absurd (true≢false (rw (drop-of-length-le s k) at e))
-
-over-numerator : (r : Ratio) → limit < r .num → isOver r ≡ true
-over-numerator r h = rw (lt-ltb limit (r .num) h) refl
-
-over-denominator : (r : Ratio) → limit < r .den → isOver r ≡ true
-over-denominator r h = by-first (ltb limit (r .num))
-  where
-    by-first : (b : Bool) → (b || ltb limit (r .den)) ≡ true
-    by-first true = refl
-    by-first false = lt-ltb limit (r .den) h
-
-pub not-over : (r : Ratio) → r .num ≤ limit → r .den ≤ limit → isOver r ≡ false
-not-over r h k = rw (le-ltb limit (r .num) h, le-ltb limit (r .den) k) refl
-
 -- a quotient over the limit makes a convergent that is
 over-long : (a : ℕ) (u v : Ratio) → 1 ≤ u .num + u .den → limit < a → isOver (convergent a u v) ≡ true
 over-long a u v h l = by-size (decLt 0 (u .num))
   where
     by-size : Dec (0 < u .num) → isOver (convergent a u v) ≡ true
-    by-size (yes k) = over-numerator (convergent a u v) (omega (arith, mul-le-mul-left a k))
+    by-size (yes k) = term-over (convergent a u v) (inl (omega (arith, mul-le-mul-left a k)))
     by-size (no k) =
         let d : 1 ≤ u .den = omega arith in
-        over-denominator (convergent a u v) (omega (arith, mul-le-mul-left a d))
+        term-over (convergent a u v) (inr (omega (arith, mul-le-mul-left a d)))
 
-module _ {s : Bits} {used : ℕ} {z : Bool} {u v : Ratio} where
-  pub found-end : End ≡ takenFrom z (leftAt s used z) → u .num ≤ limit → u .den ≤ limit
-      → Finds s used z u v (u .den * 2 ^ 32 + u .num)
+module _ {s : Bits} {used : ℕ} {z : Bool} where
+  pub found-end : {u : ℕ} {v : Ratio} → End ≡ takenFrom z (leftAt s used z) → u < 2 ^ 64
+      → Finds s used z (ratioIn u) v u
   unfolding foundFrom
-  found-end t h k =
+  found-end {u} t h =
       let e : quotientsAt s used z ≡ [] = read-end words1983 z (leftAt s used z) (told s used z End t) in
-      record { number = rw e refl; low = λ o. absurd (true≢false (sym (rw e at o) ∙ not-over u h k)) }
+      let k : isOver (ratioIn u) ≡ false = not-over (ratioIn u) (omega arith) (omega arith) in
+      record { number = rw e (omega arith); low = λ o. absurd (true≢false (sym (rw e at o) ∙ k)) }
 
   -- the convergent that the word there makes is over the limit
-  first-over : ended z (leftAt s used z) ≡ false → isOver (convergent (firstNumber z (leftAt s used z)) u v) ≡ true
-      → used < 2 ^ 32 → Finds s used z u v used
+  first-over : {u v : Ratio} → ended z (leftAt s used z) ≡ false
+      → isOver (convergent (firstNumber z (leftAt s used z)) u v) ≡ true → used < 2 ^ 32 → Finds s used z u v used
   unfolding foundFrom
   first-over g o h = record { number = rw (next-quotients s used z g, o) refl; low = λ w. h }
 
-  pub found-long : Long ≡ takenFrom z (leftAt s used z) → 1 ≤ u .num + u .den → used < 2 ^ 32 → Finds s used z u v used
-  found-long t k h =
+  pub found-long : {u v : Ratio} → Long ≡ takenFrom z (leftAt s used z) → 1 ≤ u .num + u .den → used < 2 ^ 32
+      → Finds s used z u v used
+  found-long {u} {v} t k h =
       let (g, l) = told s used z Long t in first-over g (over-long (firstNumber z (leftAt s used z)) u v k l) h
 
--- the word at a place is that of a, has n characters, and makes the convergent p/q
-pub record Makes (s : Bits) (used : ℕ) (z : Bool) (u v : Ratio) (a n p q : ℕ) : Type 0 where
-  pub goes : Goes s used z a n
-  pub num : p ≡ a * u .num + v .num
-  pub den : q ≡ a * u .den + v .den
+-- the word at a place is that of a, has n characters, and makes of u and v the convergent w, or 0
+pub record Makes (s : Bits) (used : ℕ) (z : Bool) (u v a n w : ℕ) : Type 0 where
+  pub taken : Quotient a n ≡ takenFrom z (leftAt s used z)
+  pub made : w ≡ limited (convergent a (ratioIn u) (ratioIn v))
 
-module _ {s : Bits} {used : ℕ} {z : Bool} {u v : Ratio} {a n p q : ℕ} (e : Makes s used z u v a n p q) where
-  pub found-over : (limit < p) ⊎ (limit < q) → used < 2 ^ 32 → Finds s used z u v used
-  found-over o h = first-over (e .goes .going) (rw (e .goes .first) (by-term o)) h
+module _ {s : Bits} {used : ℕ} {z : Bool} {u v a n w : ℕ} (e : Makes s used z u v a n w) where
+  goes : Goes s used z a n
+  goes = told s used z (Quotient a n) (e .taken)
+
+  -- a word of a number within the limit has at least one character, and at most 64
+  pub word-size : (1 ≤ n) × (n ≤ 64)
+  word-size =
+      let h = goes .positive in
+      rw (goes .count) (word-positive words1983 a h, by-size h (goes .small) (decLt 64 (length (wordOf a))))
     where
-      by-term : (limit < p) ⊎ (limit < q) → isOver (convergent a u v) ≡ true
-      by-term (inl l) = over-numerator (convergent a u v) (omega arith)
-      by-term (inr l) = over-denominator (convergent a u v) (omega arith)
+      by-size : 1 ≤ a → a ≤ limit → Dec (64 < length (wordOf a)) → length (wordOf a) ≤ 64
+      by-size h l (yes k) = absurd (omega (arith, word-short a h, mul-le-mul l l, pow-mono k))
+      by-size h l (no k) = omega arith
+
+  pub found-over : 1 ≤ u → w ≡ 0 → used < 2 ^ 32 → Finds s used z (ratioIn u) (ratioIn v) used
+  found-over k o =
+      let l = goes .positive in
+      let x = convergent a (ratioIn u) (ratioIn v) in
+      let m : 1 ≤ x .num + x .den =
+      omega (arith, mul-le-mul-right (u % 2 ^ 32) l, mul-le-mul-right (u / 2 ^ 32) l) in
+      first-over (goes .going) (rw (goes .first) (none-over x (e .made) m o))
 
   -- within the limit reading goes on
-  pub found-on : {r : ℕ} → p ≤ limit → q ≤ limit → Finds s (used + n) (not z) (p over q) u r → Finds s used z u v r
+  pub found-on : {r : ℕ} → 1 ≤ w → Finds s (used + n) (not z) (ratioIn w) (ratioIn u) r
+      → Finds s used z (ratioIn u) (ratioIn v) r
   unfolding foundFrom
-  found-on {r} h k w =
-      let g = e .goes in
+  found-on {r} h f =
+      let x = convergent a (ratioIn u) (ratioIn v) in
+      let (o, m) = some-within x (e .made) h in
       let l : quotientsAt s used z ≡ a ∷ quotientsAt s (used + n) (not z) =
-      rw (g .count, ← g .first) (next-quotients s used z (g .going)) in
-      let c : Finds s (used + n) (not z) (convergent a u v) u r = rw (e .num, e .den) at w in
-      record {
-        number = rw (l, not-over (convergent a u v) (omega arith) (omega arith), ← g .count) (c .number);
-        low = rw l (c .low);
-      }
+      rw (goes .count, ← goes .first) (next-quotients s used z (goes .going)) in
+      let c : Finds s (used + n) (not z) x (ratioIn u) r = rw m at f in
+      record { number = rw (l, o, ← goes .count) (c .number); low = rw l (c .low) }
 
-  pub ready-on : {most least : ℕ} → Ready most used u → used + n ≤ least → Ready least (used + n) (p over q)
-  ready-on r h =
-      let l = e .goes .positive in
-      record {
-        few = h;
-        some = omega (arith, r .some, mul-le-mul-right (u .num) l, mul-le-mul-right (u .den) l);
-      }
+-- no turned word begins past the end
+pub turned-within : {s : Bits} {used u v a n w : ℕ} → Makes s used true u v a n w → used < length s
+turned-within {s} {used} e = by-size (decLt used (length s)) (goes e .going)
+  where
+    by-size : Dec (used < length s) → ended true (leftAt s used true) ≡ false → used < length s
+    by-size (yes h) e = h
+    by-size (no h) e =
+        let k : length s ≤ used = omega arith in absurd (true≢false (rw (drop-of-length-le s k) at e))

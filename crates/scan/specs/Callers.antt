@@ -5,6 +5,7 @@ use mathlib.Core.Bool.{Bool, true, false, cond}
 use mathlib.Core.List.{List}
 use Prim.Native.Nat.{ℕ, _-_, _≤_}
 use borrow.Author.Tests.{ltb-false}
+use lib.Dec.{eqb}
 use lib.ListN.{length}
 use Rattle.outcomes.specs.Outcomes.{Outcome, Refusal, refuses, called}
 use Rattle.outcomes.specs.Refusals.{firstStrange, emptyKey, longKey, strangeKey, openKey, keyRefusals}
@@ -48,3 +49,7 @@ module _ (k : List ℕ) (more : List Refusal) (values before after : List ℕ) w
 
   pub told-key : Key ≡ judgement k → (length k ≤ 96) × (rest ≡ whole)
   told-key e = told Key e
+
+-- the fault that a number stands for
+abbrev pub faultOf : ℕ → Fault
+faultOf n = cond (eqb n 3) Empty (cond (eqb n 4) Long (cond (eqb n 5) Character LastZero))

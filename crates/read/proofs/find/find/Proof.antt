@@ -23,14 +23,14 @@ settled c =
 returns : tie.Need-returns
 returns c = answer-over _ _ (settled (c .before)) (c .if2 .taken)
 
-cast-t13 : tie.Need-cast-t13
-cast-t13 c = search needs
+cast-t9 : tie.Need-cast-t9
+cast-t9 c = search needs
 
-cast-t15 : tie.Need-cast-t15
-cast-t15 c = search needs
+cast-t11 : tie.Need-cast-t11
+cast-t11 c = search needs
 
 returns-2 : tie.Need-returns-2
 returns-2 c = answer-ratio _ _ (settled (c .before .before)) (c .before .if2 .left)
 
 pub find-spec : {M : Type 1} → statement M
-find-spec = tie.close (tie.spec find-turned-requires find-word-requires returns cast-t13 cast-t15 returns-2)
+find-spec = tie.close (tie.spec find-turned-requires find-word-requires returns cast-t9 cast-t11 returns-2)
