@@ -1,3 +1,4 @@
+pub mod Keys
 pub mod Demands
 pub mod Met
 pub mod Table

@@ -1,13 +1,86 @@
 -- The demands are met. Each field names its theorem.
+use mathlib.Core.Path.{ap}
+use mathlib.Core.List.{List, [], _∷_}
+use Prim.Native.Nat.{ℕ, _≤_}
+use lib.Dec.{lit≤}
+use lib.ListN.{length}
+use Rattle.bits.specs.Binary.{bitsOfBytes}
+use Rattle.bits.specs.Texts.{textOf, bitsOfText, inFront}
+use Rattle.bits.specs.Strings.{closed}
 use Rattle.families.specs.Families.{Family}
+use Rattle.families.specs.Published.{words1983}
+use Rattle.fractions.specs.Fractions.{lowestTerms}
+use Rattle.keys.specs.Keys.{keyOf, valueOfKey, columnOf}
 use Rattle.keys.specs.Back.{key-value, key-canonical, value-key, key-of-one}
 use Rattle.keys.specs.Order.{key-multiple, key-order, key-equal}
+use Rattle.keys.specs.Size.{limit, key-size, count-size}
 use Rattle.keys.specs.Cutting.{cut-places}
 use Rattle.keys.specs.Distance.{cut-distance}
-use Rattle.demands.specs.Demands.{Faithful, Demands}
+use Rattle.outcomes.specs.Outcomes.{Outcome, Refusal, called}
+use Rattle.outcomes.specs.Refusals.{zeroDenominator, shortBuffer, keyRefusals, outOfRange, wrongColumn}
+use Rattle.outcomes.specs.Laws.{called-number, called-kept, clear-first}
+use Rattle.outcomes.specs.Writing.{counts, writeText, writeColumn}
+use Rattle.outcomes.specs.Reading.{terms, readText, readColumn, reduce}
+use Rattle.outcomes.specs.Packing.{columnToText, textToColumn}
+use Rattle.outcomes.specs.RoundTrips.{text-written, column-written, text-back, column-back}
+use Rattle.outcomes.specs.Rewriting.{text-lowest, column-lowest, text-again, column-again}
+use Rattle.outcomes.specs.Rewriting.{text-packed, packed-back, column-unpacked, unpacked-back}
+use Rattle.demands.specs.Demands.{Refuses, Checked, Written, Again, Demands}
+use Rattle.demands.specs.Keys.{Ordered}
 
-faithful : (F : Family) → Faithful F
-faithful F = record {
+-- every call is `called` with its order
+refuses-first : (order : List Refusal) (values before after : List ℕ)
+    → Refuses (called order values before after) order before
+refuses-first order values before after = record {
+  number = called-number order values before after;
+  kept = called-kept order values before after;
+}
+
+checked : Checked
+unfolding writeText writeColumn readText readColumn columnToText textToColumn reduce
+checked = record {
+  writing-text = λ p q m.
+    refuses-first (zeroDenominator q ∷ shortBuffer 96 m ∷ []) (counts p q) m (inFront (textOf (keyOf words1983 p q)) m);
+  writing-column = λ p q m.
+    refuses-first (zeroDenominator q ∷ shortBuffer 12 m ∷ []) (counts p q) m
+    (inFront (columnOf (keyOf words1983 p q)) m);
+  reading-text = λ k.
+    let v = valueOfKey words1983 (bitsOfText k) in
+    refuses-first (keyRefusals k (outOfRange v ∷ [])) (terms v) [] [];
+  reading-column = λ c.
+    let v = valueOfKey words1983 (bitsOfBytes c) in
+    refuses-first (wrongColumn c ∷ outOfRange v ∷ []) (terms v) [] [];
+  unpacking = λ c m.
+    let k = closed (bitsOfBytes c) in
+    refuses-first (wrongColumn c ∷ shortBuffer 96 m ∷ []) (length k ∷ []) m (inFront (textOf k) m);
+  packing = λ k m.
+    refuses-first (keyRefusals k (shortBuffer 12 m ∷ [])) [] m (inFront (columnOf (bitsOfText k)) m);
+  reducing = λ p q. refuses-first (zeroDenominator q ∷ []) (terms (lowestTerms p q)) [] [];
+}
+
+written : (p q : ℕ) → 1 ≤ q → p ≤ limit → q ≤ limit → Written p q (keyOf words1983 p q)
+written p q positive small low = record {
+  text = λ m h. text-written p q m positive h;
+  column = λ m h. column-written p q m positive h;
+  sizes = (key-size words1983 p q positive small low, count-size words1983 p q positive small low);
+  back = text-back p q positive small low;
+  column-back = column-back p q positive small low;
+}
+
+again : Again
+again = record {
+  lowest = text-lowest;
+  column-lowest = column-lowest;
+  text = text-again;
+  column = λ c m p q bytes e h. ap (λ (o : Outcome). o .memory) (column-again c m p q bytes e h);
+  packed = λ k l m good h j.
+    let clear = clear-first (keyRefusals k []) (lit≤ tt, (lit≤ tt, (lit≤ tt, (lit≤ tt, tt)))) good in
+    (text-packed k l clear h, packed-back k m clear j);
+  unpacked = λ c l m bytes size h j. (column-unpacked c l size h, unpacked-back c m size bytes j);
+}
+
+ordered : (F : Family) → Ordered F
+ordered F = record {
   reading = key-value F;
   writing = value-key F;
   canonical = key-canonical F;
@@ -18,4 +91,8 @@ faithful F = record {
 }
 
 pub demands : Demands
-demands = record { faithful = faithful; distance = cut-distance; places = cut-places }
+demands = record {
+  checked = checked;
+  faithful = record { written = written; again = again; ordered = ordered };
+  near = record { distance = cut-distance; places = cut-places };
+}

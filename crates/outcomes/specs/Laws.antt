@@ -39,7 +39,7 @@ abbrev pub Numbered : List Refusal → Type 0
 Numbered [] = Unit {0}
 Numbered ((n, here) ∷ l) = (1 ≤ n) × Numbered l
 
-clear-first : (order : List Refusal) → Numbered order → firstOf order ≡ 0 → Clear order
+pub clear-first : (order : List Refusal) → Numbered order → firstOf order ≡ 0 → Clear order
 clear-first [] k e = tt
 clear-first ((n, true) ∷ l) (k, r) e = absurd (omega (arith, e))
 clear-first ((n, false) ∷ l) (k, r) e = (refl, clear-first l r e)
