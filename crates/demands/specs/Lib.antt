@@ -1,4 +1,5 @@
 pub mod Keys
 pub mod Demands
 pub mod Met
+pub mod Unique
 pub mod Table

@@ -40,21 +40,21 @@ checked : Checked
 unfolding writeText writeColumn readText readColumn columnToText textToColumn reduce
 checked = record {
   writing-text = λ p q m.
-    refuses-first (zeroDenominator q ∷ shortBuffer 96 m ∷ []) (counts p q) m (inFront (textOf (keyOf words1983 p q)) m);
+      refuses-first (zeroDenominator q ∷ shortBuffer 96 m ∷ []) (counts p q) m (inFront (textOf (keyOf words1983 p q)) m);
   writing-column = λ p q m.
-    refuses-first (zeroDenominator q ∷ shortBuffer 12 m ∷ []) (counts p q) m
-    (inFront (columnOf (keyOf words1983 p q)) m);
+      refuses-first (zeroDenominator q ∷ shortBuffer 12 m ∷ []) (counts p q) m
+      (inFront (columnOf (keyOf words1983 p q)) m);
   reading-text = λ k.
-    let v = valueOfKey words1983 (bitsOfText k) in
-    refuses-first (keyRefusals k (outOfRange v ∷ [])) (terms v) [] [];
+      let v = valueOfKey words1983 (bitsOfText k) in
+      refuses-first (keyRefusals k (outOfRange v ∷ [])) (terms v) [] [];
   reading-column = λ c.
-    let v = valueOfKey words1983 (bitsOfBytes c) in
-    refuses-first (wrongColumn c ∷ outOfRange v ∷ []) (terms v) [] [];
+      let v = valueOfKey words1983 (bitsOfBytes c) in
+      refuses-first (wrongColumn c ∷ outOfRange v ∷ []) (terms v) [] [];
   unpacking = λ c m.
-    let k = closed (bitsOfBytes c) in
-    refuses-first (wrongColumn c ∷ shortBuffer 96 m ∷ []) (length k ∷ []) m (inFront (textOf k) m);
+      let k = closed (bitsOfBytes c) in
+      refuses-first (wrongColumn c ∷ shortBuffer 96 m ∷ []) (length k ∷ []) m (inFront (textOf k) m);
   packing = λ k m.
-    refuses-first (keyRefusals k (shortBuffer 12 m ∷ [])) [] m (inFront (columnOf (bitsOfText k)) m);
+      refuses-first (keyRefusals k (shortBuffer 12 m ∷ [])) [] m (inFront (columnOf (bitsOfText k)) m);
   reducing = λ p q. refuses-first (zeroDenominator q ∷ []) (terms (lowestTerms p q)) [] [];
 }
 
@@ -74,8 +74,8 @@ again = record {
   text = text-again;
   column = λ c m p q bytes e h. ap (λ (o : Outcome). o .memory) (column-again c m p q bytes e h);
   packed = λ k l m good h j.
-    let clear = clear-first (keyRefusals k []) (lit≤ tt, (lit≤ tt, (lit≤ tt, (lit≤ tt, tt)))) good in
-    (text-packed k l clear h, packed-back k m clear j);
+      let clear = clear-first (keyRefusals k []) (lit≤ tt, (lit≤ tt, (lit≤ tt, (lit≤ tt, tt)))) good in
+      (text-packed k l clear h, packed-back k m clear j);
   unpacked = λ c l m bytes size h j. (column-unpacked c l size h, unpacked-back c m size bytes j);
 }
 

@@ -5,7 +5,7 @@ use mathlib.Core.List.{List, [], _∷_}
 use Prim.Native.Nat.{ℕ, _≤_}
 use native.Mathlib.Omega.{arith}
 use lib.ListN.{length, replicate, length-replicate}
-use Rattle.outcomes.specs.Outcomes.{Outcome, Refusal, gives, firstOf, called}
+use Rattle.outcomes.specs.Outcomes.{Outcome, Answer, Refusal, leaves, gives, firstOf, called}
 
 -- the number is the first in the order whose fault is there
 pub called-number : (order : List Refusal) (values before after : List ℕ)
@@ -54,8 +54,16 @@ gives-clear order values before after k v m e =
     let same : gives values after ≡ gives v m = sym (clear-called order values before after c) ∙ e in
     (c, (ap (λ (o : Outcome). o .values) same, ap (λ (o : Outcome). o .memory) same))
 
--- two answers that mean the same are one, where the number and the values tell the answer
-pub same-answer : {A : Type 0} (meaning : A → List ℕ → Outcome) (answerOf : Outcome → A)
-    → ((r : A) (m : List ℕ) → answerOf (meaning r m) ≡ r)
-    → (r s : A) (m n : List ℕ) → meaning r m ≡ meaning s n → r ≡ s
-same-answer meaning answerOf back r s m n e = sym (back r m) ∙ ap answerOf e ∙ back s n
+-- one outcome stands for one answer of a call's enum and one memory, where the number and the values tell the answer
+abbrev pub Determined : {A : Type 0} → (A → Answer) → Outcome → Type 0
+Determined {A} meaning o =
+    (r s : A) (m n : List ℕ) → leaves (meaning r) m ≡ o → leaves (meaning s) n ≡ o → (r ≡ s) × (m ≡ n)
+
+pub determined : {A : Type 0} (meaning : A → Answer) (answerOf : Answer → A) → ((r : A) → answerOf (meaning r) ≡ r)
+    → (o : Outcome) → Determined meaning o
+determined meaning answerOf told o r s m n e f =
+    let same = e ∙ sym f in (
+      sym (told r)
+          ∙ ap (λ (x : Outcome). answerOf (record { refusal = x .refusal; values = x .values })) same ∙ told s,
+      ap (λ (x : Outcome). x .memory) same,
+    )

@@ -13,13 +13,26 @@ pub record Outcome : Type 0 where
 abbrev pub Bytes : List ℕ → Type 0
 Bytes l = (i : ℕ) → getD l i 0 < 256
 
--- a call that succeeds
-abbrev pub gives : List ℕ → List ℕ → Outcome
-gives values memory = record { refusal = 0; values = values; memory = memory }
+-- an answer is the number and the values alone; a call leaves memory beside it
+pub record Answer : Type 0 where
+  pub refusal : ℕ
+  pub values : List ℕ
 
--- a call that refuses by number n: all of its values, v of them, are zero
+abbrev pub leaves : Answer → List ℕ → Outcome
+leaves a memory = record { refusal = a .refusal; values = a .values; memory = memory }
+
+-- the answer of a call that succeeds, and of one that refuses by number n: its values, v of them, are zero
+abbrev pub given : List ℕ → Answer
+given values = record { refusal = 0; values = values }
+
+abbrev pub refused : ℕ → ℕ → Answer
+refused n v = record { refusal = n; values = replicate v 0 }
+
+abbrev pub gives : List ℕ → List ℕ → Outcome
+gives values memory = leaves (given values) memory
+
 abbrev pub refuses : ℕ → ℕ → List ℕ → Outcome
-refuses n v memory = record { refusal = n; values = replicate v 0; memory = memory }
+refuses n v memory = leaves (refused n v) memory
 
 -- a refusal's number and whether its fault is there
 abbrev pub Refusal : Type 0

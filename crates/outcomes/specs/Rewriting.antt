@@ -47,8 +47,8 @@ unfolding readText
 text-value k p q e =
     let v = valueOfKey words1983 (bitsOfText k) in
     let (clear, (same, none)) =
-        gives-clear (keyRefusals k (outOfRange v ∷ [])) (terms v) [] []
-        (lit≤ tt, (lit≤ tt, (lit≤ tt, (lit≤ tt, (lit≤ tt, tt))))) (p ∷ q ∷ []) [] e in
+    gives-clear (keyRefusals k (outOfRange v ∷ [])) (terms v) [] []
+    (lit≤ tt, (lit≤ tt, (lit≤ tt, (lit≤ tt, (lit≤ tt, tt))))) (p ∷ q ∷ []) [] e in
     let (canonical, (short, text)) = clear-canonical k (judged-first k (outOfRange v ∷ []) clear .0) in
     (same-terms v p q same, (canonical, text))
 
@@ -87,9 +87,10 @@ column-value c p q e =
     let s = bitsOfBytes c in
     let v = valueOfKey words1983 s in
     let ((twelve, range), (same, none)) =
-        gives-clear (wrongColumn c ∷ outOfRange v ∷ []) (terms v) [] [] (lit≤ tt, (lit≤ tt, tt)) (p ∷ q ∷ []) [] e in
-    (eqb-true (length c) 12 (not-false (eqb (length c) 12) twelve),
-    value-same words1983 (closed s) s (closed-same s) ∙ same-terms v p q same)
+    gives-clear (wrongColumn c ∷ outOfRange v ∷ []) (terms v) [] [] (lit≤ tt, (lit≤ tt, tt)) (p ∷ q ∷ []) [] e in (
+      eqb-true (length c) 12 (not-false (eqb (length c) 12) twelve),
+      value-same words1983 (closed s) s (closed-same s) ∙ same-terms v p q same,
+    )
 
 pub column-lowest : (c : List ℕ) (p q : ℕ) → readColumn c ≡ gives (p ∷ q ∷ []) [] → lowestTerms p q ≡ p over q
 column-lowest c p q e =

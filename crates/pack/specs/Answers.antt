@@ -1,12 +1,11 @@
--- The scope's number and values for each answer of changing between column and text, with the memory that it leaves; and
+-- The scope's number and values for each answer of changing between column and text; and
 -- that these tell the answer.
 use mathlib.Core.Path.{_≡_, refl}
 use mathlib.Core.Bool.{cond}
-use mathlib.Core.List.{List, [], _∷_}
-use Prim.Native.Nat.{ℕ}
+use mathlib.Core.List.{[], _∷_}
 use lib.Dec.{eqb}
 use lib.ListN.{getD}
-use Rattle.outcomes.specs.Outcomes.{Outcome, gives, refuses}
+use Rattle.outcomes.specs.Outcomes.{Answer, given, refused}
 use Rattle.scan.specs.Judging.{numberOfFault}
 use Rattle.scan.specs.Callers.{faultOf}
 use Rattle.scan.specs.declared.Fault.the-variants.{Empty, Long, Character, LastZero}
@@ -15,35 +14,35 @@ use Rattle.pack.specs.declared.Unpacked.the-variants as unpacked
 use Rattle.pack.specs.declared.Packed.{Packed}
 use Rattle.pack.specs.declared.Packed.the-variants as packed
 
-abbrev pub unpackedAs : Unpacked → List ℕ → Outcome
-unpackedAs (unpacked.Key characters) m = gives (characters ∷ []) m
-unpackedAs unpacked.WrongColumn m = refuses 9 1 m
-unpackedAs unpacked.ShortBuffer m = refuses 2 1 m
+abbrev pub unpackedAs : Unpacked → Answer
+unpackedAs (unpacked.Key characters) = given (characters ∷ [])
+unpackedAs unpacked.WrongColumn = refused 9 1
+unpackedAs unpacked.ShortBuffer = refused 2 1
 
-abbrev pub packedAs : Packed → List ℕ → Outcome
-packedAs packed.Column m = gives [] m
-packedAs (packed.Faulty f) m = refuses (numberOfFault f) 0 m
-packedAs packed.ShortBuffer m = refuses 2 0 m
+abbrev pub packedAs : Packed → Answer
+packedAs packed.Column = given []
+packedAs (packed.Faulty f) = refused (numberOfFault f) 0
+packedAs packed.ShortBuffer = refused 2 0
 
-abbrev pub unpackedOf : Outcome → Unpacked
-unpackedOf o =
-    cond (eqb (o .refusal) 0) (unpacked.Key (getD (o .values) 0 0))
-    (cond (eqb (o .refusal) 9) unpacked.WrongColumn unpacked.ShortBuffer)
+abbrev pub unpackedOf : Answer → Unpacked
+unpackedOf a =
+    cond (eqb (a .refusal) 0) (unpacked.Key (getD (a .values) 0 0))
+    (cond (eqb (a .refusal) 9) unpacked.WrongColumn unpacked.ShortBuffer)
 
-pub unpacked-told : (r : Unpacked) (m : List ℕ) → unpackedOf (unpackedAs r m) ≡ r
-unpacked-told (unpacked.Key characters) m = refl
-unpacked-told unpacked.WrongColumn m = refl
-unpacked-told unpacked.ShortBuffer m = refl
+pub unpacked-told : (r : Unpacked) → unpackedOf (unpackedAs r) ≡ r
+unpacked-told (unpacked.Key characters) = refl
+unpacked-told unpacked.WrongColumn = refl
+unpacked-told unpacked.ShortBuffer = refl
 
-abbrev pub packedOf : Outcome → Packed
-packedOf o =
-    cond (eqb (o .refusal) 0) packed.Column
-    (cond (eqb (o .refusal) 2) packed.ShortBuffer (packed.Faulty (faultOf (o .refusal))))
+abbrev pub packedOf : Answer → Packed
+packedOf a =
+    cond (eqb (a .refusal) 0) packed.Column
+    (cond (eqb (a .refusal) 2) packed.ShortBuffer (packed.Faulty (faultOf (a .refusal))))
 
-pub packed-told : (r : Packed) (m : List ℕ) → packedOf (packedAs r m) ≡ r
-packed-told packed.Column m = refl
-packed-told (packed.Faulty Empty) m = refl
-packed-told (packed.Faulty Long) m = refl
-packed-told (packed.Faulty Character) m = refl
-packed-told (packed.Faulty LastZero) m = refl
-packed-told packed.ShortBuffer m = refl
+pub packed-told : (r : Packed) → packedOf (packedAs r) ≡ r
+packed-told packed.Column = refl
+packed-told (packed.Faulty Empty) = refl
+packed-told (packed.Faulty Long) = refl
+packed-told (packed.Faulty Character) = refl
+packed-told (packed.Faulty LastZero) = refl
+packed-told packed.ShortBuffer = refl

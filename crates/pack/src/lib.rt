@@ -3,6 +3,7 @@ use load::Loaded;
 use scan::Fault;
 use scan::Judged;
 ghost use mathlib.Core.Path.{_≡_};
+ghost use Rattle.outcomes.specs.Outcomes.{leaves};
 ghost use Rattle.outcomes.specs.Packing.{columnToText, textToColumn};
 ghost use Rattle.pack.specs.Answers.{unpackedAs, packedAs};
 
@@ -20,7 +21,7 @@ pub enum Packed {
 
 // The text key of a column at the front of out.
 pub fn column_to_text(column: &[u8], out: &mut [u8]) -> Unpacked
-    ensures { λ r. ⌜ unpackedAs r (now (out .exit)) ≡ columnToText (now (column .entry)) (now (out .entry)) ⌝ }
+    ensures { λ r. ⌜ leaves (unpackedAs r) (now (out .exit)) ≡ columnToText (now (column .entry)) (now (out .entry)) ⌝ }
 {
     match load::load_column(column) {
         Loaded::WrongColumn => Unpacked::WrongColumn,
@@ -36,7 +37,7 @@ pub fn column_to_text(column: &[u8], out: &mut [u8]) -> Unpacked
 
 // The column of a text key at the front of out.
 pub fn text_to_column(k: &[u8], out: &mut [u8]) -> Packed
-    ensures { λ r. ⌜ packedAs r (now (out .exit)) ≡ textToColumn (now (k .entry)) (now (out .entry)) ⌝ }
+    ensures { λ r. ⌜ leaves (packedAs r) (now (out .exit)) ≡ textToColumn (now (k .entry)) (now (out .entry)) ⌝ }
 {
     match scan::judge(k) {
         Judged::Faulty { fault, at: _ } => Packed::Faulty(fault),

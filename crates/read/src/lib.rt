@@ -5,6 +5,7 @@ use scan::Fault;
 use scan::Judged;
 ghost use mathlib.Core.List.{[]};
 ghost use mathlib.Core.Path.{_≡_};
+ghost use Rattle.outcomes.specs.Outcomes.{leaves};
 ghost use Rattle.outcomes.specs.Reading.{readText, readColumn};
 ghost use Rattle.read.specs.Answers.{textReadAs, columnReadAs};
 
@@ -24,7 +25,7 @@ pub enum ReadColumn {
 
 // The ratio of a text key, in lowest terms.
 pub fn read_text(k: &[u8]) -> ReadText
-    ensures { λ r. ⌜ textReadAs r [] ≡ readText (now (k .entry)) ⌝ }
+    ensures { λ r. ⌜ leaves (textReadAs r) [] ≡ readText (now (k .entry)) ⌝ }
 {
     match scan::judge(k) {
         Judged::Faulty { fault, at: _ } => ReadText::Faulty(fault),
@@ -40,7 +41,7 @@ pub fn read_text(k: &[u8]) -> ReadText
 
 // The ratio of a column, in lowest terms. Zeros behind are fill.
 pub fn read_column(column: &[u8]) -> ReadColumn
-    ensures { λ r. ⌜ columnReadAs r [] ≡ readColumn (now (column .entry)) ⌝ }
+    ensures { λ r. ⌜ leaves (columnReadAs r) [] ≡ readColumn (now (column .entry)) ⌝ }
 {
     match load::load_column(column) {
         Loaded::WrongColumn => ReadColumn::WrongColumn,

@@ -1,21 +1,20 @@
--- The scope's number and values for each answer of lowest terms; and that these tell the answer. No memory is lent.
+-- The scope's number and values for each answer of lowest terms; and that these tell the answer.
 use mathlib.Core.Path.{_≡_, refl}
 use mathlib.Core.Bool.{cond}
-use mathlib.Core.List.{List, [], _∷_}
-use Prim.Native.Nat.{ℕ}
+use mathlib.Core.List.{[], _∷_}
 use lib.Dec.{eqb}
 use lib.ListN.{getD}
-use Rattle.outcomes.specs.Outcomes.{Outcome, gives, refuses}
+use Rattle.outcomes.specs.Outcomes.{Answer, given, refused}
 use Rattle.reduce.specs.declared.Reduced.{Reduced}
 use Rattle.reduce.specs.declared.Reduced.the-variants.{Terms, ZeroDenominator}
 
-abbrev pub reducedAs : Reduced → List ℕ → Outcome
-reducedAs (Terms p q) m = gives (p ∷ q ∷ []) m
-reducedAs ZeroDenominator m = refuses 1 2 m
+abbrev pub reducedAs : Reduced → Answer
+reducedAs (Terms p q) = given (p ∷ q ∷ [])
+reducedAs ZeroDenominator = refused 1 2
 
-abbrev pub reducedOf : Outcome → Reduced
-reducedOf o = cond (eqb (o .refusal) 0) (Terms (getD (o .values) 0 0) (getD (o .values) 1 0)) ZeroDenominator
+abbrev pub reducedOf : Answer → Reduced
+reducedOf a = cond (eqb (a .refusal) 0) (Terms (getD (a .values) 0 0) (getD (a .values) 1 0)) ZeroDenominator
 
-pub reduced-told : (r : Reduced) (m : List ℕ) → reducedOf (reducedAs r m) ≡ r
-reduced-told (Terms p q) m = refl
-reduced-told ZeroDenominator m = refl
+pub reduced-told : (r : Reduced) → reducedOf (reducedAs r) ≡ r
+reduced-told (Terms p q) = refl
+reduced-told ZeroDenominator = refl

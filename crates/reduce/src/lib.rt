@@ -2,6 +2,7 @@
 ghost use mathlib.Core.Path.{_≡_};
 ghost use mathlib.Core.List.{[]};
 ghost use Rattle.fractions.specs.Fractions.{gcd};
+ghost use Rattle.outcomes.specs.Outcomes.{leaves};
 ghost use Rattle.outcomes.specs.Reading.{reduce};
 ghost use Rattle.reduce.specs.Answers.{reducedAs};
 
@@ -22,7 +23,7 @@ pub fn greatest_divisor(a: u32, b: u32) -> u32
 
 // p/q in lowest terms.
 pub fn lowest_terms(p: u32, q: u32) -> Reduced
-    ensures { λ r. ⌜ reducedAs r [] ≡ reduce p q ⌝ }
+    ensures { λ r. ⌜ leaves (reducedAs r) [] ≡ reduce p q ⌝ }
 {
     if q == 0 {
         return Reduced::ZeroDenominator;

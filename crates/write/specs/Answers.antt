@@ -1,26 +1,25 @@
--- The scope's number and values for each answer of writing, with the memory that it leaves; and that these tell the
+-- The scope's number and values for each answer of writing; and that these tell the
 -- answer.
 use mathlib.Core.Path.{_≡_, refl}
 use mathlib.Core.Bool.{cond}
-use mathlib.Core.List.{List, [], _∷_}
-use Prim.Native.Nat.{ℕ}
+use mathlib.Core.List.{[], _∷_}
 use lib.Dec.{eqb}
 use lib.ListN.{getD}
-use Rattle.outcomes.specs.Outcomes.{Outcome, gives, refuses}
+use Rattle.outcomes.specs.Outcomes.{Answer, given, refused}
 use Rattle.write.specs.declared.Written.{Written}
 use Rattle.write.specs.declared.Written.the-variants.{Key, ZeroDenominator, ShortBuffer}
 
-abbrev pub writtenAs : Written → List ℕ → Outcome
-writtenAs (Key characters quotients) m = gives (characters ∷ quotients ∷ []) m
-writtenAs ZeroDenominator m = refuses 1 2 m
-writtenAs ShortBuffer m = refuses 2 2 m
+abbrev pub writtenAs : Written → Answer
+writtenAs (Key characters quotients) = given (characters ∷ quotients ∷ [])
+writtenAs ZeroDenominator = refused 1 2
+writtenAs ShortBuffer = refused 2 2
 
-abbrev pub writtenOf : Outcome → Written
-writtenOf o =
-    cond (eqb (o .refusal) 0) (Key (getD (o .values) 0 0) (getD (o .values) 1 0))
-    (cond (eqb (o .refusal) 1) ZeroDenominator ShortBuffer)
+abbrev pub writtenOf : Answer → Written
+writtenOf a =
+    cond (eqb (a .refusal) 0) (Key (getD (a .values) 0 0) (getD (a .values) 1 0))
+    (cond (eqb (a .refusal) 1) ZeroDenominator ShortBuffer)
 
-pub written-told : (r : Written) (m : List ℕ) → writtenOf (writtenAs r m) ≡ r
-written-told (Key characters quotients) m = refl
-written-told ZeroDenominator m = refl
-written-told ShortBuffer m = refl
+pub written-told : (r : Written) → writtenOf (writtenAs r) ≡ r
+written-told (Key characters quotients) = refl
+written-told ZeroDenominator = refl
+written-told ShortBuffer = refl

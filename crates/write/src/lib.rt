@@ -1,6 +1,7 @@
 // Writing the key of a ratio, as text and as a column.
 use spell::Spelled;
 ghost use mathlib.Core.Path.{_≡_};
+ghost use Rattle.outcomes.specs.Outcomes.{leaves};
 ghost use Rattle.outcomes.specs.Writing.{writeText, writeColumn};
 ghost use Rattle.write.specs.Answers.{writtenAs};
 
@@ -12,7 +13,7 @@ pub enum Written {
 
 // The key of p/q as text at the front of out.
 pub fn write_text(p: u32, q: u32, out: &mut [u8]) -> Written
-    ensures { λ r. ⌜ writtenAs r (now (out .exit)) ≡ writeText p q (now (out .entry)) ⌝ }
+    ensures { λ r. ⌜ leaves (writtenAs r) (now (out .exit)) ≡ writeText p q (now (out .entry)) ⌝ }
 {
     match spell::spell(p, q) {
         Spelled::ZeroDenominator => Written::ZeroDenominator,
@@ -35,7 +36,7 @@ pub fn write_text(p: u32, q: u32, out: &mut [u8]) -> Written
 
 // The key of p/q as a column at the front of out.
 pub fn write_column(p: u32, q: u32, out: &mut [u8]) -> Written
-    ensures { λ r. ⌜ writtenAs r (now (out .exit)) ≡ writeColumn p q (now (out .entry)) ⌝ }
+    ensures { λ r. ⌜ leaves (writtenAs r) (now (out .exit)) ≡ writeColumn p q (now (out .entry)) ⌝ }
 {
     match spell::spell(p, q) {
         Spelled::ZeroDenominator => Written::ZeroDenominator,
