@@ -8,8 +8,8 @@ use lib.ListN.{length, drop, getD, length-append}
 use lib.Seq.{drop-at}
 use Rattle.bits.specs.Strings.{Bits, Same}
 use Rattle.bits.specs.Binary.{numberOf, firstBits, bytesOf, digitsIn, bitsOfBytes}
-use Rattle.bits.specs.Pieces.{same-rest, first-add, first-append, first-same, length-first, length-digits}
-use Rattle.bits.specs.Pieces.{number-of-digits, digits-of-number}
+use Rattle.bits.specs.Pieces.{same-rest, first-add, first-append, first-same}
+use Rattle.bits.specs.Pieces.{length-digits, number-of-digits, digits-first}
 
 -- one infinite string has one column
 pub bytes-same : (n : ℕ) (s t : Bits) → Same false s t → bytesOf n s ≡ bytesOf n t
@@ -31,7 +31,7 @@ pub bits-of-bytes : (n : ℕ) (s : Bits) → bitsOfBytes (bytesOf n s) ≡ first
 bits-of-bytes zero s = refl
 bits-of-bytes (suc n) s =
     let size : 8 + 8 * n ≡ 8 * suc n = omega arith in
-    rw (rw length-first at (digits-of-number (firstBits false 8 s)), bits-of-bytes n (drop 8 s))
+    rw (digits-first false 8 s, bits-of-bytes n (drop 8 s))
     (sym (first-add false 8 (8 * n) s) ∙ ap (λ (m : ℕ). firstBits false m s) size)
 
 -- the bytes of the bits of bytes are those bytes

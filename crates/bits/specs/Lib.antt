@@ -8,3 +8,4 @@ pub mod Numbers
 pub mod Pieces
 pub mod Sums
 pub mod Columns
+pub mod Memory

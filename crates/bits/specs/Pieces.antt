@@ -9,8 +9,8 @@ use native.Mathlib.Decide.{decLt}
 use native.Mathlib.Omega.{arith}
 use lib.Pow.{pow-pos, high, mod-pow-add}
 use lib.Dec.{eqb, lit<}
-use lib.ListN.{length, getD, drop, List·getD-append, List·getD-eq-default}
-use lib.Seq.{drop-nil, getD-drop, ext-getD}
+use lib.ListN.{length, getD, take, drop, length-append, take-append-drop, List·getD-append, List·getD-eq-default}
+use lib.Seq.{drop-nil, take-all, take-append-le, getD-drop, ext-getD}
 use Rattle.bits.specs.Strings.{Bits, Same}
 use Rattle.bits.specs.Binary.{digitOf, numberOf, firstBits, digitsIn}
 use Rattle.bits.specs.Order.{same-append}
@@ -41,9 +41,31 @@ first-append z (b ∷ s) t = ap {B = Bits} (λ r. b ∷ r) (first-append z s t)
 pub first-all : (z : Bool) (s : Bits) → firstBits z (length s) s ≡ s
 first-all z s = rw append-nil at (first-append z s [])
 
+-- a piece and the string agree as far as both go
+pub take-first : (z : Bool) (n m : ℕ) (s : Bits) → n ≤ m → n ≤ length s → take n (firstBits z m s) ≡ take n s
+take-first z zero m s h l = refl
+take-first z (suc n) zero s h l = absurd (omega arith)
+take-first z (suc n) (suc m) [] h l = absurd (omega arith)
+take-first z (suc n) (suc m) (b ∷ s) h l =
+    ap {B = Bits} (λ r. b ∷ r) (take-first z n m s (omega arith) (omega arith))
+
+-- a piece within a string has nothing of what the string goes on with
+pub first-take : (z : Bool) (n : ℕ) (s : Bits) → n ≤ length s → firstBits z n s ≡ take n s
+first-take z n s h =
+    sym (take-all n (firstBits z n s) (omega (arith, length-first z n s))) ∙ take-first z n n s (omega arith) h
+
+-- nor of what follows the string
+pub first-before : (z : Bool) (n : ℕ) (s t : Bits) → n ≤ length s → firstBits z n (s ++ t) ≡ firstBits z n s
+first-before z n s t h =
+    first-take z n (s ++ t) (rw length-append (omega arith)) ∙ take-append-le n s t h ∙ sym (first-take z n s h)
+
+pub first-rest : (z : Bool) (n : ℕ) (s : Bits) → n ≤ length s → firstBits z n s ++ drop n s ≡ s
+first-rest z n s h = rw (first-take z n s h) (take-append-drop n s)
+
 first-at : (z : Bool) (n : ℕ) (s : Bits) (i : ℕ) → i < n → getD (firstBits z n s) i z ≡ getD s i z
 first-at z n s i h =
-    sym (List·getD-append (firstBits z n s) (drop n s) z i (omega (arith, length-first z n s))) ∙ sym (same-first z n s i)
+    sym (List·getD-append (firstBits z n s) (drop n s) z i (omega (arith, length-first z n s)))
+    ∙ sym (same-first z n s i)
 
 pub same-rest : (z : Bool) (n : ℕ) (s t : Bits) → Same z s t → Same z (drop n s) (drop n t)
 same-rest z n s t e i = getD-drop n s i z ∙ e (n + i) ∙ sym (getD-drop n t i z)
@@ -69,6 +91,9 @@ unfolding digitsIn
 length-digits zero v = refl
 length-digits (suc n) v = ap suc (length-digits n v)
 
+pub first-digits : (z : Bool) (n v : ℕ) → firstBits z n (digitsIn n v) ≡ digitsIn n v
+first-digits z n v = rw length-digits at (first-all z (digitsIn n v))
+
 -- a digit is the bit that it is tested to be
 digit-bit : (v : ℕ) → v < 2 → digitOf (eqb v 1) ≡ v
 digit-bit zero h = refl
@@ -81,7 +106,8 @@ number-in zero v = sym (mod-one v)
 number-in (suc n) v =
     let d = v / 2 ^ n % 2 in
     rw length-digits at (number-from (2 * 0 + digitOf (eqb d 1)) (digitsIn n v))
-    ∙ rw (digit-bit d (mod-lt (v / 2 ^ n) (lit< tt)), number-in n v) (rw zero-add (sym (rw one-add at (mod-pow-add v 1 n))))
+    ∙ rw (digit-bit d (mod-lt (v / 2 ^ n) (lit< tt)), number-in n v)
+    (rw zero-add (sym (rw one-add at (mod-pow-add v 1 n))))
 
 -- digits of a number that they hold are that number
 pub number-of-digits : (n v : ℕ) → v < 2 ^ n → numberOf (digitsIn n v) ≡ v
@@ -109,8 +135,12 @@ digits-of-number [] = refl
 digits-of-number (b ∷ s) = λ i. by-bit b i ∷ (rest ∙ digits-of-number s) i
   where
     by-bit : (b : Bool) → eqb (numberOf (b ∷ s) / 2 ^ length s % 2) 1 ≡ b
-    by-bit true = rw (number-from 1 s, high 1 (length s) (number-lt s)) refl
-    by-bit false = rw (div-eq-of-lt (number-lt s)) refl
+    by-bit true = rw (number-from 1 s, high 1 (length s) (number-lt s))
+    by-bit false = rw (div-eq-of-lt (number-lt s))
 
     rest : digitsIn (length s) (numberOf (b ∷ s)) ≡ digitsIn (length s) (numberOf s)
     rest = rw (number-from (2 * 0 + digitOf b) s) (digits-above (length s) (2 * 0 + digitOf b) (numberOf s))
+
+-- n digits of the number of a piece of n bits are the piece
+pub digits-first : (z : Bool) (n : ℕ) (s : Bits) → digitsIn n (numberOf (firstBits z n s)) ≡ firstBits z n s
+digits-first z n s = rw length-first at (digits-of-number (firstBits z n s))

@@ -5,7 +5,7 @@ use mathlib.Core.Logic.{_⊎_, inl, inr}
 use mathlib.Core.List.{[], _∷_, _++_}
 use Prim.Native.Nat.{zero, suc, _≤_, suc-le-suc}
 use native.Mathlib.Omega.{arith}
-use lib.ListN.{length}
+use lib.ListN.{length, take}
 use Rattle.bits.specs.Strings.{Bits, Same, _≺_, trimmed, behindZero, closed}
 use Rattle.bits.specs.Order.{same-append, before-same}
 
@@ -88,3 +88,17 @@ pub closed-equal : (s t : Bits) → 1 ≤ length s → 1 ≤ length t → Same f
 closed-equal [] t h k e = absurd (omega arith)
 closed-equal (b ∷ s) [] h k e = absurd (omega arith)
 closed-equal (b ∷ s) (c ∷ t) h k e = λ i. e 0 i ∷ trimmed-same s t (λ j. e (suc j)) i
+
+behind-zero-take : (r s : Bits) → r ≡ take (length r) s → behindZero r ≡ take (length (behindZero r)) (false ∷ s)
+behind-zero-take [] s e = refl
+behind-zero-take (b ∷ r) s e = ap {B = Bits} (λ t. false ∷ t) e
+
+trimmed-take : (s : Bits) → trimmed s ≡ take (length (trimmed s)) s
+trimmed-take [] = refl
+trimmed-take (true ∷ s) = ap {B = Bits} (λ t. true ∷ t) (trimmed-take s)
+trimmed-take (false ∷ s) = behind-zero-take (trimmed s) s (trimmed-take s)
+
+-- what is dropped stands at the end: the rest is the first characters of the string
+pub closed-take : (s : Bits) → closed s ≡ take (length (closed s)) s
+closed-take [] = refl
+closed-take (b ∷ s) = ap {B = Bits} (λ t. b ∷ t) (trimmed-take s)

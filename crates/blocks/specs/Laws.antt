@@ -1,41 +1,53 @@
 -- Strings to blocks and back.
-use mathlib.Core.Path.{_≡_, refl, sym, _∙_, ap}
+use mathlib.Core.Path.{_≡_, sym, _∙_, ap}
 use mathlib.Core.Bool.{false}
-use mathlib.Core.List.{_++_}
 use Prim.Native.Nat.{ℕ, _^_, _≤_, _<_}
 use native.Mathlib.Omega.{arith}
-use lib.ListN.{length, drop, length-append}
-use lib.Seq.{drop-at}
+use lib.ListN.{length, take, drop, length-append}
+use lib.Seq.{take-at, drop-at}
 use Rattle.bits.specs.Strings.{Bits, Same}
 use Rattle.bits.specs.Binary.{numberOf, firstBits, digitsIn}
-use Rattle.bits.specs.Order.{same-drop}
-use Rattle.bits.specs.Pieces.{length-first, first-add, first-append, first-all, first-same, same-rest, same-piece, length-digits, number-of-digits, digits-of-number}
+use Rattle.bits.specs.Pieces.{first-add, first-take, first-same, same-rest, same-piece}
+use Rattle.bits.specs.Pieces.{length-digits, number-of-digits, first-digits, digits-first}
 use Rattle.blocks.specs.declared.Block.{Block}
 use Rattle.blocks.specs.Blocks.{bitsOfBlock, blockOf}
 
 pub block-length : (b : Block) → length (bitsOfBlock b) ≡ 96
 unfolding bitsOfBlock
-block-length b = rw (length-append, length-digits, length-digits)
+block-length b = simp (length-append, length-digits)
 
--- n digits of the number of a piece of n bits are the piece
-pub digits-first : (n : ℕ) (s : Bits) → digitsIn n (numberOf (firstBits false n s)) ≡ firstBits false n s
-digits-first n s = rw length-first at (digits-of-number (firstBits false n s))
+-- the first 64 bits are in the high word, and the others in the low one
+pub block-front : (b : Block) → take 64 (bitsOfBlock b) ≡ digitsIn 64 (b .high)
+unfolding bitsOfBlock
+block-front b = take-at (digitsIn 64 (b .high)) (digitsIn 32 (b .low)) 64 (length-digits 64 (b .high))
+
+pub block-rest : (b : Block) → drop 64 (bitsOfBlock b) ≡ digitsIn 32 (b .low)
+unfolding bitsOfBlock
+block-rest b = drop-at (digitsIn 64 (b .high)) (digitsIn 32 (b .low)) 64 (length-digits 64 (b .high))
+
+pub block-high : (b : Block) → b .high < 2 ^ 64 → numberOf (firstBits false 64 (bitsOfBlock b)) ≡ b .high
+block-high b h =
+    rw (first-take false 64 (bitsOfBlock b) (omega (arith, block-length b)), block-front)
+    (number-of-digits 64 (b .high) h)
+
+pub block-low : (b : Block) → b .low < 2 ^ 32 → numberOf (drop 64 (bitsOfBlock b)) ≡ b .low
+block-low b l = rw block-rest (number-of-digits 32 (b .low) l)
+
+-- two words that are a string's first 64 and next 32 bits are its block
+pub block-made : (s : Bits) {x y : ℕ} → x ≡ numberOf (firstBits false 64 s)
+    → y ≡ numberOf (firstBits false 32 (drop 64 s)) → record { high = x; low = y } ≡ blockOf s
+unfolding blockOf
+block-made s high low = λ i. record { high = high i; low = low i }
 
 pub block-bits : (s : Bits) → bitsOfBlock (blockOf s) ≡ firstBits false 96 s
 unfolding bitsOfBlock blockOf
-block-bits s = rw (digits-first 64 s, digits-first 32 (drop 64 s)) (sym (first-add false 64 32 s))
+block-bits s = rw (digits-first false 64 s, digits-first false 32 (drop 64 s)) (sym (first-add false 64 32 s))
 
 pub bits-block : (b : Block) → b .high < 2 ^ 64 → b .low < 2 ^ 32 → blockOf (bitsOfBlock b) ≡ b
-unfolding bitsOfBlock blockOf
 bits-block b h l =
-    let s = digitsIn 64 (b .high) in
-    let t = digitsIn 32 (b .low) in
-    let high : numberOf (firstBits false 64 (s ++ t)) ≡ b .high =
-    rw (rw length-digits at (first-append false s t)) (number-of-digits 64 (b .high) h) in
-    let low : numberOf (firstBits false 32 (drop 64 (s ++ t))) ≡ b .low =
-    rw (drop-at s t 64 (length-digits 64 (b .high)), rw length-digits at (first-all false t))
-    (number-of-digits 32 (b .low) l) in
-    λ i. record { high = high i; low = low i }
+    let low : firstBits false 32 (drop 64 (bitsOfBlock b)) ≡ drop 64 (bitsOfBlock b) =
+    rw block-rest (first-digits false 32 (b .low)) in
+    sym (block-made (bitsOfBlock b) (sym (block-high b h)) (sym (ap numberOf low ∙ block-low b l)))
 
 -- strings that are one infinite string have one block
 pub block-same : (s t : Bits) → Same false s t → blockOf s ≡ blockOf t

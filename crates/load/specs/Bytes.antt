@@ -10,10 +10,10 @@ use lib.Seq.{drop-at, drop-nil, drop-append-add}
 use Rattle.bits.specs.Binary.{numberOf, firstBits, digitsIn, bitsOfBytes}
 use Rattle.bits.specs.Pieces.{first-append, length-digits, number-of-digits}
 use Rattle.bits.specs.Sums.{number-first}
-use Rattle.blocks.specs.Blocks.{blockOf}
+use Rattle.bits.specs.Memory.{lent-part}
+use Rattle.blocks.specs.Laws.{block-made}
 use Rattle.load.specs.declared.Loaded.the-variants.{Bits, WrongColumn}
 use Rattle.load.specs.Loading.{loaded}
-use Rattle.load.specs.Parts.{rest-whole}
 
 -- the number of the first four bytes, top byte first
 abbrev pub fourBytes : List ℕ → ℕ
@@ -59,14 +59,13 @@ unfolding loaded
 column-wrong c n = rw (ne-eqb (length c) 12 n)
 
 -- x, y and z are the column's three fours
-pub column-loaded : (c : List ℕ) (x y z : ℕ) → length c ≡ 12 → x ≡ fourBytes c
-    → y ≡ fourBytes (take (length c - 4) (drop 4 c))
-    → z ≡ fourBytes (take (length c - 8) (drop 8 c))
+pub column-loaded : (c : List ℕ) {x y z : ℕ} → length c ≡ 12 → x ≡ fourBytes c
+    → y ≡ fourBytes (take (length c - 4) (drop 4 c)) → z ≡ fourBytes (take (length c - 8) (drop 8 c))
     → Bits record { high = x * 4294967296 + y; low = z } ≡ loaded c
-unfolding loaded blockOf
-column-loaded c x y z l e f g =
+unfolding loaded
+column-loaded c {x} {y} {z} l e f g =
     let s = bitsOfBytes c in
-    let second : y ≡ numberOf (firstBits false 32 (drop 32 s)) = f ∙ rw (rest-whole 4 c, bits-drop 4 c) in
-    let low : z ≡ numberOf (firstBits false 32 (drop 64 s)) = g ∙ rw (rest-whole 8 c, bits-drop 8 c) in
+    let second : y ≡ numberOf (firstBits false 32 (drop 32 s)) = f ∙ rw (lent-part c 4, bits-drop 4 c) in
+    let low : z ≡ numberOf (firstBits false 32 (drop 64 s)) = g ∙ rw (lent-part c 8, bits-drop 8 c) in
     let high : x * 4294967296 + y ≡ numberOf (firstBits false 64 s) = omega (arith, number-first false 32 32 s) in
-    rw (eq-eqb (length c) 12 l) (λ i. Bits record { high = high i; low = low i })
+    rw (eq-eqb (length c) 12 l) (ap Bits (block-made s high low))

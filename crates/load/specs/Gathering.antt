@@ -1,27 +1,32 @@
 -- A text's bits gathered into a machine word from its characters, and the parts of a text as parts of its string.
 use mathlib.Core.Path.{_≡_, refl, sym, ap, _∙_}
 use mathlib.Core.Bool.{Bool, true, false}
-use mathlib.Core.List.{List, [], _∷_, _++_}
+use mathlib.Core.List.{List, [], _∷_, map-append}
 use Prim.Native.Nat.{ℕ, zero, suc, _+_, _*_, _-_, _%_, _/_, _^_, _≤_, _<_}
 use native.Mathlib.Numerals.{add-one}
 use native.Mathlib.Nat.{pow-suc}
 use native.Mathlib.Omega.{arith}
 use mir.Val.{boolByte}
 use lib.Dec.{eqb}
-use lib.ListN.{length, getD, take, drop, length-map, drop-of-length-le}
-use lib.Pow.{pow-mono, shl-exact}
+use lib.ListN.{length, getD, take, drop, length-map}
+use lib.Pow.{pow-mono}
 use lib.Seq.{take-suc, take-all, length-take-le}
 use Rattle.bits.specs.Strings.{Bits}
 use Rattle.bits.specs.Binary.{digitOf, numberOf, firstBits}
 use Rattle.bits.specs.Texts.{bitsOfText}
+use Rattle.bits.specs.Memory.{lent-part}
 use Rattle.bits.specs.Numbers.{number-append, number-lt}
-use Rattle.bits.specs.Sums.{number-extended, first-shorter}
+use Rattle.bits.specs.Sums.{number-past, number-raised, first-shorter}
 use Rattle.blocks.specs.Blocks.{blockOf}
-use Rattle.load.specs.Parts.{rest-whole}
+use Rattle.blocks.specs.Laws.{block-made}
 
-text-append : (a b : List ℕ) → bitsOfText (a ++ b) ≡ bitsOfText a ++ bitsOfText b
-text-append [] b = refl
-text-append (c ∷ a) b = ap {B = Bits} (λ r. eqb c 49 ∷ r) (text-append a b)
+-- the first 64 bits of a text, extended by zeros, as a number
+abbrev pub topWord : List ℕ → ℕ
+topWord k = numberOf (firstBits false 64 (bitsOfText k))
+
+-- v is the number of the first i characters
+abbrev pub Gathered : List ℕ → ℕ → ℕ → Type 0
+Gathered k v i = v ≡ numberOf (bitsOfText (take i k))
 
 text-drop : (n : ℕ) (k : List ℕ) → bitsOfText (drop n k) ≡ drop n (bitsOfText k)
 text-drop zero k = refl
@@ -43,31 +48,16 @@ pub byte-small : (b : Bool) → boolByte b ≤ 1
 byte-small true = omega arith
 byte-small false = omega arith
 
--- the first 64 bits of a text, extended by zeros, as a number
-abbrev pub topWord : List ℕ → ℕ
-topWord k = numberOf (firstBits false 64 (bitsOfText k))
-
--- v is the number of the first i characters
-abbrev pub Gathered : List ℕ → ℕ → ℕ → Type 0
-Gathered k v i = v ≡ numberOf (bitsOfText (take i k))
-
--- a string is moved to the top of a machine word by as many places as it lacks
-raised-by : (s : Bits) (n : ℕ) → length s + n ≡ 64 → (numberOf s * 2 ^ n) % 2 ^ 64 ≡ numberOf (firstBits false 64 s)
-raised-by s n e =
-    shl-exact (length s) n 64 (number-lt s) (omega arith)
-    ∙ sym (number-extended n s)
-    ∙ ap (λ (m : ℕ). numberOf (firstBits false m s)) e
-
--- the same for a shift by less than 64: an empty string is 0 wherever it stands
+-- a string at the top of a machine word, by a shift of less than 64: an empty string is 0 wherever it stands
 raised : (s : Bits) → length s ≤ 64
     → (numberOf s * 2 ^ ((64 - length s) % 64)) % 2 ^ 64 ≡ numberOf (firstBits false 64 s)
 raised [] h = refl
 raised (b ∷ s) h =
-    let t = b ∷ s in
-    let short : (64 - length t) % 64 ≡ 64 - length t = omega arith in
-    ap (λ (n : ℕ). (numberOf t * 2 ^ n) % 2 ^ 64) short ∙ raised-by t (64 - length t) (omega arith)
+    let lacking = 64 - length (b ∷ s) in
+    let short : lacking % 64 ≡ lacking = omega arith in
+    rw short (number-raised 64 lacking (b ∷ s) (omega arith))
 
-module _ (k : List ℕ) (v i : ℕ) (g : Gathered k v i) where
+module _ (k : List ℕ) {v : ℕ} (i : ℕ) (g : Gathered k v i) where
   gathered-lt : i ≤ length k → v < 2 ^ i
   gathered-lt h =
       let size : length (bitsOfText (take i k)) ≡ i = rw length-map (length-take-le i k h) in
@@ -82,38 +72,31 @@ module _ (k : List ℕ) (v i : ℕ) (g : Gathered k v i) where
 
   pub gathered-more : (d : ℕ) → i < length k → Gathered k (2 * v + boolByte (eqb (getD k i d) 49)) (i + 1)
   gathered-more d h =
-      rw (add-one, take-suc k i d, text-append, number-append, g, byte-digit (eqb (getD k i d) 49))
+      rw (add-one, take-suc k i d, map-append, number-append, g, byte-digit (eqb (getD k i d) 49))
 
-  pub gathered-all : i ≡ length k → i ≤ 64
-      → (v * 2 ^ ((64 - i) % 64)) % 2 ^ 64 ≡ topWord k
+  pub gathered-all : i ≡ length k → i ≤ 64 → (v * 2 ^ ((64 - i) % 64)) % 2 ^ 64 ≡ topWord k
   gathered-all e h =
       let whole : v ≡ numberOf (bitsOfText k) = g ∙ rw (take-all i k (omega arith)) in
       let size : i ≡ length (bitsOfText k) = rw length-map e in
       rw (whole, size) (raised (bitsOfText k) (omega arith))
 
-pub short-loaded : (k : List ℕ) (x : ℕ) → length k ≤ 64 → x ≡ topWord k
+pub short-loaded : (k : List ℕ) {x : ℕ} → length k ≤ 64 → x ≡ topWord k
     → record { high = x; low = 0 } ≡ blockOf (bitsOfText k)
-unfolding blockOf
-short-loaded k x h e =
-    let none : drop 64 (bitsOfText k) ≡ [] = sym (text-drop 64 k) ∙ rw (drop-of-length-le k h) in
-    let low : 0 ≡ numberOf (firstBits false 32 (drop 64 (bitsOfText k))) = rw none in
-    λ i. record { high = e i; low = low i }
+short-loaded k h e =
+    let s = bitsOfText k in block-made s e (sym (number-past 32 64 s (rw length-map h)))
 
-module _ (k : List ℕ) (x y : ℕ) (e : x ≡ topWord (take 64 k)) where
+module _ (k : List ℕ) {x y : ℕ} (e : x ≡ topWord (take 64 k)) where
   -- y has the bits after the first 64, of which a block holds 32
   loaded-from : (l : List ℕ) → y ≡ topWord l
       → firstBits false 32 (bitsOfText l) ≡ firstBits false 32 (bitsOfText (drop 64 k))
       → record { high = x; low = y / 4294967296 } ≡ blockOf (bitsOfText k)
-  unfolding blockOf
   loaded-from l f g =
-      let high : x ≡ topWord k = e ∙ rw text-take in
-      let low : y / 4294967296 ≡ numberOf (firstBits false 32 (drop 64 (bitsOfText k))) =
-      rw f (first-shorter false 32 32 (bitsOfText l) ∙ rw (g, text-drop)) in
-      λ i. record { high = high i; low = low i }
+      block-made (bitsOfText k) (e ∙ rw text-take)
+      (rw f (first-shorter false 32 32 (bitsOfText l) ∙ rw (g, text-drop)))
 
   pub rest-loaded : y ≡ topWord (take (length k - 64) (drop 64 k))
       → record { high = x; low = y / 4294967296 } ≡ blockOf (bitsOfText k)
-  rest-loaded f = loaded-from (take (length k - 64) (drop 64 k)) f (rw (rest-whole 64 k))
+  rest-loaded f = loaded-from (take (length k - 64) (drop 64 k)) f (rw (lent-part k 64))
 
   pub part-loaded : y ≡ topWord (take 32 (drop 64 k))
       → record { high = x; low = y / 4294967296 } ≡ blockOf (bitsOfText k)

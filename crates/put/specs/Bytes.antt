@@ -1,19 +1,20 @@
--- Numbers as bytes, top byte first, strings as the bytes of their numbers, and bytes put in front of lent memory.
+-- Numbers as bytes, top byte first, and the bytes of a block's bits as those of its two words.
 use mathlib.Core.Path.{_≡_, refl, sym, _∙_, ap, ap₂}
-use mathlib.Core.Bool.{Bool, false}
-use mathlib.Core.List.{List, [], _∷_, _++_, append-nil, append-assoc}
+use mathlib.Core.Bool.{false}
+use mathlib.Core.List.{List, [], _∷_, _++_}
 use Prim.Native.Nat.{ℕ, zero, suc, _+_, _*_, _/_, _%_, _^_, _≤_, _<_, _-_}
 use native.Mathlib.Nat.{zero-add, suc-add, pow-suc}
 use native.Mathlib.Omega.{arith}
 use lib.Arith.{digits-div, digits-mod}
 use lib.Pow.{pow-add}
-use lib.ListN.{length, take, drop, length-append, length-drop}
-use lib.Seq.{take-length, drop-length, take-at, drop-at, drop-append-le, drop-drop, sets, sets-eq}
+use lib.ListN.{length, take, drop, length-drop}
+use lib.Seq.{drop-append-le}
 use Rattle.bits.specs.Strings.{Bits}
 use Rattle.bits.specs.Binary.{numberFrom, numberOf, firstBits, bytesOf, digitsIn}
 use Rattle.bits.specs.Texts.{inFront}
 use Rattle.bits.specs.Numbers.{number-from, number-append, number-lt}
-use Rattle.bits.specs.Pieces.{length-first, length-digits, number-of-digits}
+use Rattle.bits.specs.Memory.{front-more, lent-back}
+use Rattle.bits.specs.Pieces.{length-first, first-before, first-rest, length-digits, number-of-digits}
 use Rattle.blocks.specs.declared.Block.{Block}
 use Rattle.blocks.specs.Blocks.{bitsOfBlock}
 
@@ -26,18 +27,6 @@ length-bytes : (n v : ℕ) → length (bytesIn n v) ≡ n
 unfolding bytesIn
 length-bytes zero v = refl
 length-bytes (suc n) v = ap suc (length-bytes n v)
-
--- a string is its first bits and the rest
-first-rest : (z : Bool) (n : ℕ) (s : Bits) → n ≤ length s → firstBits z n s ++ drop n s ≡ s
-first-rest z zero s h = refl
-first-rest z (suc n) [] h = absurd (omega arith)
-first-rest z (suc n) (b ∷ s) h = ap {B = Bits} (λ r. b ∷ r) (first-rest z n s (omega arith))
-
--- what follows a string isn't in its first bits
-first-before : (z : Bool) (n : ℕ) (s t : Bits) → n ≤ length s → firstBits z n (s ++ t) ≡ firstBits z n s
-first-before z zero s t h = refl
-first-before z (suc n) [] t h = absurd (omega arith)
-first-before z (suc n) (b ∷ s) t h = ap {B = Bits} (λ r. b ∷ r) (first-before z n s t (omega arith))
 
 bytes-append : (m n : ℕ) (s t : Bits) → length s ≡ 8 * m → bytesOf (m + n) (s ++ t) ≡ bytesOf m s ++ bytesOf n t
 bytes-append zero n [] t e = rw zero-add
@@ -80,49 +69,26 @@ bytes-from (suc n) v s e =
     (bytes-from n (numberFrom v f) d rest ∙ ap (bytesIn n) (sym (number-append v f d)))
     ∙ ap (λ (r : Bits). bytesIn (suc n) (numberFrom v r)) (first-rest false 8 s (omega arith))
 
--- two words side by side, as bytes
-bytes-words : (m n : ℕ) (s t : Bits) → length s ≡ 8 * m → length t ≡ 8 * n
-    → bytesOf (m + n) (s ++ t) ≡ bytesIn m (numberOf s) ++ bytesIn n (numberOf t)
-bytes-words m n s t d e = rw (bytes-append m n s t d, bytes-from m 0 s d, bytes-from n 0 t e)
-
--- stores one after the other, from the front on
-pub stored-front : (t m : List ℕ) → length t ≤ length m → sets m 0 t ≡ inFront t m
-stored-front t m h = rw zero-add at (sets-eq t m 0 (omega arith))
-
--- p in front, and then q in front of the n-th place, where the part behind it is lent whole and comes back as ys
-fronts-joined : (n : ℕ) (p q m xs ys : List ℕ) → length p ≡ n → xs ≡ inFront p m
-    → ys ≡ inFront q (take (length xs - n) (drop n xs))
-    → take n xs ++ (ys ++ drop (length xs - n) (drop n xs)) ≡ inFront (p ++ q) m
-fronts-joined n p q m xs ys k d e =
-    let r = drop (length p) m in
-    let front : take n xs ≡ p = rw d (take-at p r n k) in
-    let behind : drop n xs ≡ r = rw d (drop-at p r n k) in
-    let size : length xs - n ≡ length r = sym (length-drop n xs) ∙ ap length behind in
-    rw (
-      e,
-      front,
-      behind,
-      size,
-      take-length r,
-      drop-length r,
-      append-nil,
-      length-append,
-      append-assoc,
-      drop-drop (length q) (length p) m,
-    )
-
 block-bytes : (b : Block) → b .high < 2 ^ 64 → b .low < 2 ^ 32
     → bytesOf 12 (bitsOfBlock b) ≡ bytesIn 8 (b .high) ++ bytesIn 4 (b .low)
 unfolding bitsOfBlock
 block-bytes b h l =
-    bytes-words 8 4 (digitsIn 64 (b .high)) (digitsIn 32 (b .low)) (length-digits 64 (b .high))
-    (length-digits 32 (b .low))
-    ∙ ap₂ (λ (x y : ℕ). bytesIn 8 x ++ bytesIn 4 y) (number-of-digits 64 (b .high) h) (number-of-digits 32 (b .low) l)
+    let s = digitsIn 64 (b .high) in
+    let t = digitsIn 32 (b .low) in
+    let long : length s ≡ 64 = length-digits 64 (b .high) in
+    let short : length t ≡ 32 = length-digits 32 (b .low) in
+    bytes-append 8 4 s t long
+    ∙ ap₂ {C = List ℕ} (λ x y. x ++ y)
+    (rw (number-of-digits 64 (b .high) h) at (bytes-from 8 0 s long))
+    (rw (number-of-digits 32 (b .low) l) at (bytes-from 4 0 t short))
 
--- a block's two words put out so are the bytes of its bits
-pub words-front : (b : Block) (m xs ys : List ℕ) → b .high < 2 ^ 64 → b .low < 2 ^ 32
+-- the two words put out, the low one at the front of what was lent behind the first eight bytes
+pub words-front : (b : Block) (m : List ℕ) {xs ys : List ℕ} → b .high < 2 ^ 64 → b .low < 2 ^ 32
     → xs ≡ inFront (bytesIn 8 (b .high)) m → ys ≡ inFront (bytesIn 4 (b .low)) (take (length xs - 8) (drop 8 xs))
     → take 8 xs ++ (ys ++ drop (length xs - 8) (drop 8 xs)) ≡ inFront (bytesOf 12 (bitsOfBlock b)) m
-words-front b m xs ys h l d e =
-    fronts-joined 8 (bytesIn 8 (b .high)) (bytesIn 4 (b .low)) m xs ys (length-bytes 8 (b .high)) d e
+words-front b m {xs} h l d e =
+    let first = bytesIn 8 (b .high) in
+    let second = bytesIn 4 (b .low) in
+    lent-back second xs 8 e
+    ∙ rw d (front-more first second m 8 (length-bytes 8 (b .high)))
     ∙ ap (λ (t : List ℕ). inFront t m) (sym (block-bytes b h l))

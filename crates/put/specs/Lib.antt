@@ -1,6 +1,6 @@
 pub mod Putting
 pub mod Spread
-pub mod TextLaws
+pub mod Piecewise
 pub mod KeyText
 pub mod Trailing
 pub mod Bytes

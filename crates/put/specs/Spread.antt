@@ -27,15 +27,6 @@ lowBits : ℕ → ℕ → ℕ
 lowBits zero n = 0
 lowBits (suc k) n = lowBits k (n / 2 ^ 8) * 2 ^ 8 + n % 2
 
--- bitAnd doesn't compute at large numbers, and / and % do
-and-ones : (k n : ℕ) → bitAnd n (ones k) ≡ lowBits k n
-unfolding lowBits
-and-ones zero n = and-zero-r n
-and-ones (suc k) n =
-    ap (λ (x : ℕ). bitAnd x (ones (suc k))) (sym (split n 8))
-    ∙ and-block 8 (n / 2 ^ 8) (ones k) (n % 2 ^ 8) 1 (mod-lt n (pow-pos 8)) (lit< tt)
-    ∙ ap₂ (λ (x y : ℕ). x * 2 ^ 8 + y) (and-ones k (n / 2 ^ 8)) (and-mask (n % 2 ^ 8) 1 ∙ mod-mod-pow n 7 1)
-
 -- the byte at every ninth place, moved such that a wanted bit is the lowest of each byte
 abbrev pub copies : ℕ → ℕ
 copies v = v * 18049651735527937 / 2 ^ 7
@@ -52,6 +43,15 @@ characters v = lowBytes (assembled v (lowBits 7 (copies v)))
 table : (ℕ → List ℕ) → ℕ → List (List ℕ)
 table f zero = []
 table f (suc n) = f n ∷ table f n
+
+-- bitAnd doesn't compute at large numbers, and / and % do
+and-ones : (k n : ℕ) → bitAnd n (ones k) ≡ lowBits k n
+unfolding lowBits
+and-ones zero n = and-zero-r n
+and-ones (suc k) n =
+    ap (λ (x : ℕ). bitAnd x (ones (suc k))) (sym (split n 8))
+    ∙ and-block 8 (n / 2 ^ 8) (ones k) (n % 2 ^ 8) 1 (mod-lt n (pow-pos 8)) (lit< tt)
+    ∙ ap₂ (λ (x y : ℕ). x * 2 ^ 8 + y) (and-ones k (n / 2 ^ 8)) (and-mask (n % 2 ^ 8) 1 ∙ mod-mod-pow n 7 1)
 
 table-at : (f g : ℕ → List ℕ) (n v : ℕ) → v < n → table f n ≡ table g n → f v ≡ g v
 unfolding table

@@ -1,4 +1,5 @@
-// A block put out as text or as a column. Both give the characters of its key, which no buffer too short makes 0.
+// A block put out as text or as a column. Both give how many characters its key has, and 0, which is no key's length,
+// where the buffer is too short.
 use blocks::Block;
 ghost use mathlib.Core.Path.{_≡_};
 ghost use lib.ListN.{length};

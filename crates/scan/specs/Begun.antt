@@ -7,31 +7,29 @@ use native.Mathlib.Nat.{pow-suc}
 use native.Mathlib.Numerals.{sub-one}
 use native.Mathlib.Omega.{arith}
 use native.Mathlib.Decide.{decLt}
-use borrow.Author.Tests.{lt-ltb, le-ltb}
-use lib.Pow.{pow-add, pow-mono}
+use lib.Pow.{pow-add, pow-mono, pow-pos}
 use lib.ListN.{length, replicate, replicate-append-replicate}
 use lib.Seq.{drop-append-seam}
 use Rattle.bits.specs.Strings.{Bits, Same}
 use Rattle.bits.specs.Binary.{numberOf, firstBits}
-use Rattle.bits.specs.Numbers.{number-lt, number-ones}
-use Rattle.bits.specs.Pieces.{length-first, first-append, first-same}
+use Rattle.bits.specs.Numbers.{number-ones}
+use Rattle.bits.specs.Pieces.{first-append, first-same}
+use Rattle.bits.specs.Sums.{first-lt, number-first}
 use Rattle.families.specs.Families.{ended}
 use Rattle.families.specs.Words.{digitsAfterOne, wordOf, firstNumber}
-use Rattle.families.specs.Digits.{number-digits, number-low, number-high}
-use Rattle.families.specs.Measured.{word-length, word-number}
+use Rattle.families.specs.Digits.{number-digits, number-high}
+use Rattle.families.specs.Measured.{digits-low, word-length, word-number}
 use Rattle.families.specs.Complete.{word-complete}
-use Rattle.keys.specs.Size.{limit}
-use Rattle.scan.specs.declared.Taken.the-variants.{Quotient, Long, End}
-use Rattle.scan.specs.Taking.{takenFrom}
-use Rattle.scan.specs.Windows.{piece-number}
-use Rattle.scan.specs.Runs.{Counted, valueOf, counted-many, Fronted, fronted-run, fronted-value}
+use Rattle.scan.specs.declared.Taken.the-variants.{Quotient, Long}
+use Rattle.scan.specs.Taking.{takenFrom, taken-above, taken-within}
+use Rattle.scan.specs.Runs.{Counted, numberRead, Front, counted-many, run-counted, word-read}
 
 -- the first bits of a string that begins with p, as a number
 begun : (z : Bool) (s p t : Bits) (m n : ℕ) → length p + m ≡ n → Same z s (p ++ t)
     → numberOf (firstBits z n s) ≡ numberOf p * 2 ^ m + numberOf (firstBits z m t)
 begun z s p t m n e same =
     ap numberOf (first-same z n s (p ++ t) same) ∙ ap (λ (x : ℕ). numberOf (firstBits z x (p ++ t))) (sym e)
-    ∙ rw (first-append, drop-append-seam) at (piece-number z (length p) m (p ++ t))
+    ∙ rw (first-append, drop-append-seam) at (number-first z (length p) m (p ++ t))
 
 -- with 32 ones in front
 ones-number : (z : Bool) (s t : Bits) (k : ℕ) → 32 ≤ k → Same z s (replicate k true ++ t)
@@ -60,18 +58,24 @@ word-ones z s rest a same h =
     ones-number z s (false ∷ (digitsAfterOne a ++ rest)) (length (digitsAfterOne a)) h (rw append-assoc at same)
 
 -- a word of k digits after the leading one, where it fits the 64 bits
-word-fronted : (z : Bool) (s t : Bits) (k a : ℕ) → k < 32 → 2 ^ k ≤ a → a < 2 ^ suc k → Same z s (wordOf a ++ t)
-    → Fronted k (63 - 2 * k) a (numberOf (firstBits z (63 - 2 * k) t)) (numberOf (firstBits z 64 s))
-word-fronted z s t k a h low high same = record {
-  size = omega arith;
-  low = low;
-  high = high;
-  small = rw length-first at (number-lt (firstBits z f t));
+word-front : (z : Bool) (s t : Bits) (k a : ℕ) → k < 32 → 2 ^ k ≤ a → a < 2 ^ suc k → Same z s (wordOf a ++ t)
+    → Front (2 ^ k) (2 ^ (63 - 2 * k)) (2 ^ 63) (2 ^ 64) a (numberOf (firstBits z (63 - 2 * k) t))
+    (numberOf (firstBits z 64 s))
+word-front z s t k a h low high same = record {
+  half = rw (← pow-add 2 k k, ← pow-add 2 (k + k) f) (ap (λ (n : ℕ). 2 ^ n) places);
+  whole = refl;
   made = omega (arith, front, ap (λ (x : ℕ). x * 2 ^ f) number, powers);
+  low = low;
+  high = omega (arith, high, pow-suc 2 k);
+  small = first-lt z f t;
+  some = pow-pos k;
 }
   where
     f : ℕ
     f = 63 - 2 * k
+
+    places : k + k + f ≡ 63
+    places = omega arith
 
     low-again : 2 ^ (suc k - 1) ≤ a
     low-again = rw sub-one low
@@ -93,19 +97,6 @@ word-fronted z s t k a h low high same = record {
     powers : 2 ^ (2 * k + 1) * 2 ^ f ≡ 2 ^ 64
     powers = let e : 2 * k + 1 + f ≡ 64 = omega arith in sym (pow-add 2 (2 * k + 1) f) ∙ ap (λ (n : ℕ). 2 ^ n) e
 
-taken-above : (z : Bool) (s : Bits) → ended z s ≡ false → limit < firstNumber z s → takenFrom z s ≡ Long
-unfolding takenFrom
-taken-above z s h l = rw (h, lt-ltb limit (firstNumber z s) l)
-
-taken-within : (z : Bool) (s : Bits) → ended z s ≡ false → firstNumber z s ≤ limit
-    → takenFrom z s ≡ Quotient (firstNumber z s) (length (wordOf (firstNumber z s)))
-unfolding takenFrom
-taken-within z s h l = rw (h, le-ltb limit (firstNumber z s) l)
-
-pub taken-ended : (z : Bool) (s : Bits) → ended z s ≡ true → takenFrom z s ≡ End
-unfolding takenFrom
-taken-ended z s h = rw h
-
 -- the run that is counted of the first 64 bits of a string that isn't ended says what is taken from it
 module _ (z : Bool) (s : Bits) {w r : ℕ} (h : ended z s ≡ false) (e : numberOf (firstBits z 64 s) ≡ w)
     (c : Counted w r) where
@@ -117,7 +108,7 @@ module _ (z : Bool) (s : Bits) {w r : ℕ} (h : ended z s ≡ false) (e : number
   k = length (digitsAfterOne a)
 
   low : 2 ^ k ≤ a
-  low = omega (arith, number-low (digitsAfterOne a), number-digits a (word-complete z s h .0))
+  low = digits-low a (word-complete z s h .0)
 
   high : a < 2 ^ suc k
   high = omega (arith, number-high (digitsAfterOne a), number-digits a (word-complete z s h .0))
@@ -132,11 +123,11 @@ module _ (z : Bool) (s : Bits) {w r : ℕ} (h : ended z s ≡ false) (e : number
   abbrev behind : ℕ
   behind = numberOf (firstBits z (63 - 2 * k) rest)
 
-  fronted : k < 32 → Fronted k (63 - 2 * k) a behind w
-  fronted l = rw e at (word-fronted z s rest k a l low high same)
+  front : k < 32 → Front (2 ^ k) (2 ^ (63 - 2 * k)) (2 ^ 63) (2 ^ 64) a behind w
+  front l = rw e at (word-front z s rest k a l low high same)
 
   run-few : k < 32 → r ≡ k
-  run-few l = fronted-run (fronted l) c l
+  run-few l = run-counted k l (front l) c
 
   run-many : 32 ≤ k → r ≡ 32
   run-many l = counted-many c (rw e at (word-ones z s rest a same l))
@@ -148,12 +139,12 @@ module _ (z : Bool) (s : Bits) {w r : ℕ} (h : ended z s ≡ false) (e : number
       by-size (yes m) = absurd (omega (arith, run-few m))
       by-size (no m) = sym (taken-above z s h (omega (arith, low, pow-mono {i = 32} {j = k} (omega arith))))
 
-  pub taken-word : r < 32 → Quotient (valueOf w r) (2 * r + 1) ≡ takenFrom z s
+  pub taken-word : r < 32 → Quotient (numberRead w r) (2 * r + 1) ≡ takenFrom z s
   taken-word l = by-size (decLt k 32)
     where
-      by-size : Dec (k < 32) → Quotient (valueOf w r) (2 * r + 1) ≡ takenFrom z s
+      by-size : Dec (k < 32) → Quotient (numberRead w r) (2 * r + 1) ≡ takenFrom z s
       by-size (yes m) =
-          let v : valueOf w r ≡ a = rw (run-few m) (fronted-value (fronted m)) in
+          let v : numberRead w r ≡ a = rw (run-few m) (word-read k m (front m)) in
           let n : 2 * r + 1 ≡ length (wordOf a) =
           omega (arith, run-few m, word-length (suc k) a (rw sub-one low) high) in
           (λ i. Quotient (v i) (n i))

@@ -10,15 +10,13 @@ use Rattle.bits.specs.Strings.{Bits, turn, allOnes}
 use Rattle.bits.specs.Binary.{numberOf, firstBits}
 use Rattle.bits.specs.Numbers.{number-turn}
 use Rattle.bits.specs.Pieces.{length-first}
+use Rattle.bits.specs.Sums.{number-first}
 use Rattle.families.specs.Families.{ended}
 use Rattle.families.specs.Digits.{number-low}
 use Rattle.scan.specs.declared.Taken.the-variants.{Long, End}
-use Rattle.scan.specs.declared.Kind.{Kind}
-use Rattle.scan.specs.declared.Place.{Place}
-use Rattle.scan.specs.Taking.{isTurned, leftAt, takenFrom, takenAt}
-use Rattle.scan.specs.Windows.{piece-number}
+use Rattle.scan.specs.Taking.{takenFrom, taken-ended}
 use Rattle.scan.specs.Runs.{Counted}
-use Rattle.scan.specs.Begun.{taken-long, taken-ended}
+use Rattle.scan.specs.Begun.{taken-long}
 
 first-turned : (n : ℕ) (s : Bits) → firstBits true n (turn s) ≡ turn (firstBits false n s)
 first-turned zero s = refl
@@ -62,7 +60,7 @@ pub long-turned : (s : Bits) → numberOf (firstBits false 64 s) ≡ 0 → (numb
     → Long ≡ takenFrom true (turn s)
 long-turned s e h =
     taken-long true (turn s)
-    (not-ended (64 + 64) s λ n. h (omega (arith, piece-number false 64 64 s)))
+    (not-ended (64 + 64) s λ n. h (omega (arith, number-first false 64 64 s)))
     (turned-window s 0 (sym e)) all-ones (omega arith)
   where
     all-ones : Counted (2 ^ 64 - 1) 32
@@ -74,9 +72,4 @@ end-turned n s l e = sym (taken-ended true (turn s) (is-ended n s l e))
 -- the same in two windows
 pub end-in-two : (s : Bits) → length s ≤ 128 → numberOf (firstBits false 64 s) ≡ 0
     → numberOf (firstBits false 64 (drop 64 s)) ≡ 0 → End ≡ takenFrom true (turn s)
-end-in-two s l e f = end-turned (64 + 64) s l (omega (arith, piece-number false 64 64 s))
-
--- what is taken at a place, by the kind that is due there
-pub taken-at : (s : Bits) (p : Place) (k : Kind) → p .due ≡ k
-    → takenFrom (isTurned k) (leftAt s (p .used) (isTurned k)) ≡ takenAt s p
-taken-at s p k e = ap (λ (x : Kind). takenFrom (isTurned x) (leftAt s (p .used) (isTurned x))) (sym e)
+end-in-two s l e f = end-turned (64 + 64) s l (omega (arith, number-first false 64 64 s))

@@ -1,6 +1,5 @@
 pub mod Judging
 pub mod Taking
-pub mod Strange
 pub mod Verdicts
 pub mod Runs
 pub mod Windows

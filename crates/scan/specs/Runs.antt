@@ -1,5 +1,5 @@
 -- The ones in front of a 64-bit number w, counted up to 32, and what a word with which its bits begin makes of them.
-use mathlib.Core.Path.{_≡_, refl, sym, _∙_, ap}
+use mathlib.Core.Path.{_≡_, _∙_, ap}
 use Prim.Native.Nat.{ℕ, suc, _+_, _*_, _-_, _/_, _%_, _^_, _≤_, _<_}
 use native.Mathlib.Nat.{pow-suc, mul-le-mul-right, mul-lt-mul-of-pos-right}
 use native.Mathlib.Omega.{arith}
@@ -7,24 +7,36 @@ use native.Mathlib.Decide.{decLt}
 use lib.Arith.{digits-div, digits-mod}
 use lib.Pow.{pow-add, pow-mono, pow-pos, shr-lt}
 
+-- r is the number of ones in front of w, counted up to 32
 pub record Counted (w r : ℕ) : Type 0 where
   pub most : r ≤ 32
   -- the first r bits are ones
   pub ones : 2 ^ 64 * 2 ^ r ≤ w * 2 ^ r + 2 ^ 64
-  -- and a zero follows, below 32
+  -- and where there are fewer than 32, a zero follows
   pub stopped : r < 32 → w * 2 ^ r + 2 ^ 63 < 2 ^ 64 * 2 ^ r
+
+-- the number that the code reads from w and its run
+abbrev pub numberRead : ℕ → ℕ → ℕ
+numberRead w r = ((w * 2 ^ r) % 2 ^ 64 + 2 ^ 63) / 2 ^ (63 - r)
+
+-- the word of a number a stands in front of bits of the value E: together they are w. P is the power of two of the
+-- word's run, F that of the bits behind it, N is 2 ^ 64 and H its half
+pub record Front (P F H N a E w : ℕ) : Type 0 where
+  pub half : P * P * F ≡ H
+  pub whole : 2 * H ≡ N
+  pub made : w + 3 * P * F ≡ a * F + N + E
+  pub low : P ≤ a
+  pub high : a < 2 * P
+  pub small : E < F
+  pub some : 1 ≤ P
 
 -- what is left of w, shifted by its run, is w without the ones
 shifted : (R N w left : ℕ) → 1 ≤ R → left < N → w * R + N ≡ left + N * R → (w * R) % N ≡ left
-shifted R N w left h l e = ap (λ (x : ℕ). x % N) front ∙ digits-mod q l
-  where
-    q : ℕ
-    q = R - 1
-
-    front : w * R ≡ q * N + left
-    front =
-        let p : q + 1 ≡ R = omega arith in
-        omega (arith, ap (λ (x : ℕ). x * N) p)
+shifted R N w left h l e =
+    let q = R - 1 in
+    let next : q + 1 ≡ R = omega arith in
+    let front : w * R ≡ q * N + left = omega (arith, ap (λ (x : ℕ). x * N) next) in
+    ap (λ (x : ℕ). x % N) front ∙ digits-mod q l
 
 -- one more one counted: what is left of w after n ones, where R = 2 ^ n, is shifted once more
 pub next-one : (R N H w left : ℕ) → 2 * H ≡ N → w < N → 1 ≤ R → H ≤ left → left + N * R ≡ w * R + N
@@ -40,12 +52,8 @@ shifted-small {w} {r} c h =
     let small : left < 2 ^ 63 = omega (arith, c .stopped h) in
     omega (arith, shifted (2 ^ r) (2 ^ 64) w left (pow-pos r) (omega arith) (omega (arith, c .ones)))
 
--- the number that the code makes of w and its run
-abbrev pub valueOf : ℕ → ℕ → ℕ
-valueOf w r = ((w * 2 ^ r) % 2 ^ 64 + 2 ^ 63) / 2 ^ (63 - r)
-
-pub value-fits : {w r : ℕ} → Counted w r → r < 32 → valueOf w r < 2 ^ 32
-value-fits {w} {r} c h =
+pub read-fits : {w r : ℕ} → Counted w r → r < 32 → numberRead w r < 2 ^ 32
+read-fits {w} {r} c h =
     shr-lt 32 (63 - r) (omega (arith, shifted-small c h, pow-mono {i = 64} {j = 32 + (63 - r)} (omega arith)))
 
 -- where the first 32 bits are ones, 32 are counted
@@ -56,17 +64,6 @@ counted-many {w} {r} c h = by-size (decLt r 32)
     by-size (yes l) =
         absurd (omega (arith, c .stopped l, mul-le-mul-right (2 ^ r) h, pow-mono {i = r} {j = 31} (omega arith)))
     by-size (no l) = omega (arith, c .most)
-
--- The word of a number a stands in front of bits of the value E: together they are w. P is the power of two of the
--- word's run, F that of the bits behind it, N is 2 ^ 64 and H its half.
-record Front (P F H N a E w : ℕ) : Type 0 where
-  half : P * P * F ≡ H
-  whole : 2 * H ≡ N
-  made : w + 3 * P * F ≡ a * F + N + E
-  low : P ≤ a
-  high : a < 2 * P
-  small : E < F
-  some : 1 ≤ P
 
 module _ {P F H N a E w : ℕ} (it : Front P F H N a E w) where
   run-short : (R : ℕ) → w * R + H < N * R → 2 * R ≤ P → ⊥
@@ -88,8 +85,8 @@ module _ {P F H N a E w : ℕ} (it : Front P F H N a E w) where
         mul-le-mul-right (P * F) l,
       )
 
-  read-value : ((w * P) % N + H) / (F * P) ≡ a
-  read-value =
+  front-read : ((w * P) % N + H) / (F * P) ≡ a
+  front-read =
       ap (λ (x : ℕ). (x + H) / (F * P)) (shifted P N w left (it .some) under front)
       ∙ ap (λ (x : ℕ). x / (F * P)) from-front ∙ digits-div a (mul-lt-mul-of-pos-right (it .small) (it .some))
     where
@@ -111,43 +108,23 @@ module _ {P F H N a E w : ℕ} (it : Front P F H N a E w) where
       front : w * P + N ≡ left + N * P
       front = omega (arith, from-front, ap (λ (x : ℕ). x * P) (it .made))
 
--- the same, with the powers of two written out: k is the run, f the number of bits behind the word
-pub record Fronted (k f a E w : ℕ) : Type 0 where
-  pub size : k + k + f ≡ 63
-  pub low : 2 ^ k ≤ a
-  pub high : a < 2 ^ suc k
-  pub small : E < 2 ^ f
-  pub made : w + 3 * 2 ^ k * 2 ^ f ≡ a * 2 ^ f + 2 ^ 64 + E
-
-module _ {k f a E w : ℕ} (fronted : Fronted k f a E w) where
-  bare : Front (2 ^ k) (2 ^ f) (2 ^ 63) (2 ^ 64) a E w
-  bare = record {
-    half = rw (← pow-add 2 k k, ← pow-add 2 (k + k) f) (ap (λ (n : ℕ). 2 ^ n) (fronted .size));
-    whole = refl;
-    made = fronted .made;
-    low = fronted .low;
-    high = omega (arith, fronted .high, pow-suc 2 k);
-    small = fronted .small;
-    some = pow-pos k;
-  }
-
-  -- what is counted is the run of that word
-  pub fronted-run : {r : ℕ} → Counted w r → k < 32 → r ≡ k
-  fronted-run {r} c h = by-size (decLt r k) (decLt k r)
+-- the same in powers of two: k is the run of a word that fits 64 bits
+module _ (k : ℕ) (few : k < 32) {a E w : ℕ} (it : Front (2 ^ k) (2 ^ (63 - 2 * k)) (2 ^ 63) (2 ^ 64) a E w) where
+  -- what is counted is the word's run
+  pub run-counted : {r : ℕ} → Counted w r → r ≡ k
+  run-counted {r} c = by-size (decLt r k) (decLt k r)
     where
       by-size : Dec (r < k) → Dec (k < r) → r ≡ k
       by-size (yes l) d =
           let under : 2 * 2 ^ r ≤ 2 ^ k = omega (arith, pow-suc 2 r, pow-mono {i = suc r} {j = k} l) in
-          absurd (run-short bare (2 ^ r) (c .stopped (omega arith)) under)
+          absurd (run-short it (2 ^ r) (c .stopped (omega arith)) under)
       by-size (no m) (yes l) =
-          absurd (run-long bare (2 ^ r) (c .ones) (omega (arith, pow-suc 2 k, pow-mono {i = suc k} {j = r} l)))
+          absurd (run-long it (2 ^ r) (c .ones) (omega (arith, pow-suc 2 k, pow-mono {i = suc k} {j = r} l)))
       by-size (no m) (no l) = omega arith
 
-  -- and the value is its number
-  pub fronted-value : valueOf w k ≡ a
-  fronted-value =
-      ap (λ (x : ℕ). ((w * 2 ^ k) % 2 ^ 64 + 2 ^ 63) / x) (ap (λ (n : ℕ). 2 ^ n) places ∙ pow-add 2 f k)
-      ∙ read-value bare
-    where
-      places : 63 - k ≡ f + k
-      places = omega (arith, fronted .size)
+  -- and what is read is its number
+  pub word-read : numberRead w k ≡ a
+  word-read =
+      let places : 63 - k ≡ 63 - 2 * k + k = omega arith in
+      ap (λ (n : ℕ). ((w * 2 ^ k) % 2 ^ 64 + 2 ^ 63) / 2 ^ n) places
+      ∙ rw (pow-add 2 (63 - 2 * k) k) (front-read it)

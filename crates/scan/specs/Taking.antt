@@ -1,7 +1,9 @@
--- What reading one word from a place gives, by the published form: the quotient and the characters of its word, that the
--- quotient is above the limit, or that the key ended.
+-- What reading one word from a place gives, by the published form: the quotient and the characters of its word, that
+-- the quotient is above the limit, or that the key ended.
+use mathlib.Core.Path.{_≡_, sym, ap}
 use mathlib.Core.Bool.{Bool, true, false, cond}
-use Prim.Native.Nat.{ℕ}
+use Prim.Native.Nat.{ℕ, _≤_, _<_}
+use borrow.Author.Tests.{lt-ltb, le-ltb}
 use lib.Dec.{ltb}
 use lib.ListN.{length, drop}
 use Rattle.bits.specs.Strings.{Bits, turn}
@@ -30,3 +32,21 @@ takenFrom z s =
 
 abbrev pub takenAt : Bits → Place → Taken
 takenAt s p = takenFrom (isTurned (p .due)) (leftAt s (p .used) (isTurned (p .due)))
+
+pub taken-above : (z : Bool) (s : Bits) → ended z s ≡ false → limit < firstNumber z s → takenFrom z s ≡ Long
+unfolding takenFrom
+taken-above z s h l = rw (h, lt-ltb limit (firstNumber z s) l)
+
+pub taken-within : (z : Bool) (s : Bits) → ended z s ≡ false → firstNumber z s ≤ limit
+    → takenFrom z s ≡ Quotient (firstNumber z s) (length (wordOf (firstNumber z s)))
+unfolding takenFrom
+taken-within z s h l = rw (h, le-ltb limit (firstNumber z s) l)
+
+pub taken-ended : (z : Bool) (s : Bits) → ended z s ≡ true → takenFrom z s ≡ End
+unfolding takenFrom
+taken-ended z s h = rw h
+
+-- what is taken at a place, by the kind that is due there
+pub taken-at : (s : Bits) (p : Place) (k : Kind) → p .due ≡ k
+    → takenFrom (isTurned k) (leftAt s (p .used) (isTurned k)) ≡ takenAt s p
+taken-at s p k e = ap (λ (x : Kind). takenFrom (isTurned x) (leftAt s (p .used) (isTurned x))) (sym e)

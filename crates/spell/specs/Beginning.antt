@@ -43,7 +43,18 @@ from-one : (a : ℕ) (l : List ℕ) → 1 ≤ a
 from-one zero l h = absurd (omega arith)
 from-one (suc a) l h = (refl, sym (one-add (length l)))
 
-module _ (p q : ℕ) (positive : 1 ≤ q) where
+-- what is written has room, and so has each front of it
+front-fits : {p q : ℕ} → 1 ≤ q → p < 2 ^ 32 → q < 2 ^ 32 → (front rest : Bits)
+    → written words1983 (formOf p q) ≡ front ++ rest → length front + length rest ≤ 96
+front-fits {p} {q} positive high low front rest e =
+    omega (
+      arith,
+      written-size words1983 p q positive (omega arith) (omega arith),
+      ap length e,
+      length-append front rest,
+    )
+
+module _ (p : ℕ) {q : ℕ} (positive : 1 ≤ q) where
   form : formOf p q ≡ p / q ∷ toCome q (p % q)
   form =
       alternate-form p q positive
@@ -62,54 +73,47 @@ module _ (p q : ℕ) (positive : 1 ≤ q) where
         small = lit< tt;
       }
 
-  -- from 1 on with 1 and the word of the whole part
-  pub begun-from : (s : Line) → 1 ≤ p / q → After (record { high = 0; low = 1; bits = 1 }) (wordOf (p / q)) s
-      → Begun p q (true ∷ wordOf (p / q)) s 1
-  begun-from s h e = record {
-    whole = ap (written words1983) form ∙ (from-one (p / q) (toCome q (p % q)) h) .0;
-    counted = ap countOf form ∙ (from-one (p / q) (toCome q (p % q)) h) .1;
-    number = e .number;
-    bits = e .bits ∙ one-add (length (wordOf (p / q)));
-    some = omega arith;
-    small = e .small;
-  }
+  module _ (above : 1 ≤ p / q) where
+    whole : written words1983 (formOf p q) ≡ true ∷ (wordOf (p / q) ++ wordsToCome q (p % q))
+    whole = ap (written words1983) form ∙ from-one (p / q) (toCome q (p % q)) above .0
 
-  pub whole-fits : p < 2 ^ 32 → q < 2 ^ 32 → 1 ≤ p / q → 1 + length (wordOf (p / q)) ≤ 96
-  whole-fits high low h = omega (
-    arith,
-    written-size words1983 p q positive (omega arith) (omega arith),
-    ap length (ap (written words1983) form ∙ (from-one (p / q) (toCome q (p % q)) h) .0),
-    length-append (wordOf (p / q)) (wordsToCome q (p % q)),
-  )
-
-  module _ (high : p < 2 ^ 32) (low : q < 2 ^ 32) (front : Bits) (s : Line) (count : ℕ) (b : Begun p q front s count) where
-    size : length front + length (wordsToCome q (p % q)) ≤ 96
-    size = omega (
-      arith,
-      written-size words1983 p q positive (omega arith) (omega arith),
-      ap length (b .whole),
-      length-append front (wordsToCome q (p % q)),
-    )
-
-    pub begun-room : Room q (p % q) s count
-    begun-room = record {
-      turned = mod-lt p positive;
-      range = low;
-      small = b .small;
-      some = omega (arith, b .bits, b .some);
-      room = omega (arith, b .bits, size);
-      few = omega (arith, b .counted, count-size words1983 p q positive (omega arith) (omega arith));
+    -- from 1 on with 1 and the word of the whole part, for which there is room
+    pub begun-from : {s : Line} → After (record { high = 0; low = 1; bits = 1 }) (wordOf (p / q)) s
+        → Begun p q (true ∷ wordOf (p / q)) s 1
+    begun-from e = record {
+      whole = whole;
+      counted = ap countOf form ∙ from-one (p / q) (toCome q (p % q)) above .1;
+      number = e .number;
+      bits = e .bits ∙ one-add (length (wordOf (p / q)));
+      some = omega arith;
+      small = e .small;
     }
 
-    pub begun-answer : (result : Spelled) → Continued q (p % q) s count result → result ≡ spelling p q
-    unfolding spelling keyOf
-    begun-answer result h =
-        let string = written words1983 (formOf p q) in
-        let same : blockOf string ≡ blockOf (closed string) =
-        sym (block-same (closed string) string (closed-same string)) in
-        let divisor : gcd q (p % q) ≡ gcd p q =
-        sym (gcd-step p q (p / q) (p % q) (sym (div-add-mod' p q)) (mod-lt p positive)) in
-        let counted : count + length (toCome q (p % q)) ≡ countOf (formOf p q) = sym (b .counted) in
-        h .answer string (rw (b .whole, length-append) (omega (arith, b .bits)))
-        (rw (b .whole, b .number) (number-append 0 front (wordsToCome q (p % q))))
-        ∙ rw (ne-eqb q 0 (λ e. omega arith)) λ i. Key (same i) (counted i) (divisor i)
+    pub whole-fits : p < 2 ^ 32 → q < 2 ^ 32 → 1 + length (wordOf (p / q)) ≤ 96
+    whole-fits high low =
+        omega (arith, front-fits positive high low (true ∷ wordOf (p / q)) (wordsToCome q (p % q)) whole)
+
+module _ {p q : ℕ} {front : Bits} {s : Line} {count : ℕ} (positive : 1 ≤ q) (high : p < 2 ^ 32) (low : q < 2 ^ 32)
+    (b : Begun p q front s count) where
+  pub begun-room : Room q (p % q) s count
+  begun-room = record {
+    turned = mod-lt p positive;
+    range = low;
+    small = b .small;
+    some = omega (arith, b .bits, b .some);
+    room = omega (arith, b .bits, front-fits positive high low front (wordsToCome q (p % q)) (b .whole));
+    few = omega (arith, b .counted, count-size words1983 p q positive (omega arith) (omega arith));
+  }
+
+  pub begun-answer : {result : Spelled} → Continued q (p % q) s count result → result ≡ spelling p q
+  unfolding spelling keyOf
+  begun-answer h =
+      let string = written words1983 (formOf p q) in
+      let same : blockOf string ≡ blockOf (closed string) =
+      sym (block-same (closed string) string (closed-same string)) in
+      let divisor : gcd q (p % q) ≡ gcd p q =
+      sym (gcd-step p q (p / q) (p % q) (sym (div-add-mod' p q)) (mod-lt p positive)) in
+      let counted : count + length (toCome q (p % q)) ≡ countOf (formOf p q) = sym (b .counted) in
+      h .answer string (rw (b .whole, length-append) (omega (arith, b .bits)))
+      (rw (b .whole, b .number) (number-append 0 front (wordsToCome q (p % q))))
+      ∙ rw (ne-eqb q 0 (λ e. omega arith)) λ i. Key (same i) (counted i) (divisor i)

@@ -19,7 +19,7 @@ use Rattle.fractions.specs.Euclid.{gcd-end, gcd-step}
 use Rattle.fractions.specs.TwoStates.{alternate-end, alternate-word, alternate-turned, gcd-turned}
 use Rattle.keys.specs.Keys.{spelled}
 use Rattle.spell.specs.declared.line.Line.{Line}
-use Rattle.spell.specs.Lines.{numberOfLine, Small, After}
+use Rattle.spell.specs.Lines.{numberOfLine, After}
 use Rattle.spell.specs.declared.Spelled.the-variants.{Key}
 use Rattle.spell.specs.Spelling.{toCome, wordsToCome, Room, Continued}
 
@@ -31,10 +31,10 @@ pub record Going (d₀ r₀ : ℕ) (s₀ : Line) (count₀ d r : ℕ) (s : Line)
   pub counted : count + length (toCome d r) ≡ count₀ + length (toCome d₀ r₀)
   pub divisor : gcd d r ≡ gcd d₀ r₀
 
-pub going-start : (d r : ℕ) (s : Line) (count : ℕ) → Room d r s count → Going d r s count d r s count
-going-start d r s count h = record { here = h; bits = refl; number = refl; counted = refl; divisor = refl }
+pub going-start : {d r : ℕ} {s : Line} {count : ℕ} → Room d r s count → Going d r s count d r s count
+going-start h = record { here = h; bits = refl; number = refl; counted = refl; divisor = refl }
 
-module _ (d r : ℕ) (some : 1 ≤ r) (turned : r < d) where
+module _ {d r : ℕ} {s : Line} {count : ℕ} (some : 1 ≤ r) (here : Room d r s count) where
   abbrev t : ℕ
   t = (d - 1) % r + 1
 
@@ -48,7 +48,7 @@ module _ (d r : ℕ) (some : 1 ≤ r) (turned : r < d) where
   t-below = omega (arith, mod-lt (d - 1) some)
 
   pub a-some : 1 ≤ a
-  a-some = le-div-iff-mul-le some .1 (omega arith)
+  a-some = le-div-iff-mul-le some .1 (omega (arith, here .turned))
 
   pub b-some : 1 ≤ b
   b-some = le-div-iff-mul-le {k = t} (omega arith) .1 (omega (arith, t-below))
@@ -57,7 +57,7 @@ module _ (d r : ℕ) (some : 1 ≤ r) (turned : r < d) where
   left-below = mod-lt r (omega arith)
 
   before : d ≡ a * r + t
-  before = omega (arith, div-add-mod' (d - 1) r)
+  before = omega (arith, here .turned, div-add-mod' (d - 1) r)
 
   come : toCome d r ≡ a ∷ b ∷ toCome t (r % t)
   come =
@@ -66,42 +66,43 @@ module _ (d r : ℕ) (some : 1 ≤ r) (turned : r < d) where
 
   words : wordsToCome d r ≡ turn (wordOf a) ++ (wordOf b ++ wordsToCome t (r % t))
   words =
+      let rest = wordOf b ++ wordsToCome t (r % t) in
       ap (λ (l : List ℕ). turn (spelled words1983 l)) come
-      ∙ rw (map-append, turn-turn (wordOf b ++ wordsToCome t (r % t))) refl
+      ∙ map-append not (wordOf a) (turn rest)
+      ∙ ap (λ (x : Bits). turn (wordOf a) ++ x) (turn-turn rest)
 
   words-length : length (wordsToCome d r)
       ≡ length (turn (wordOf a)) + (length (wordOf b) + length (wordsToCome t (r % t)))
   words-length = rw (words, length-append, length-append)
 
   same-divisor : gcd d r ≡ gcd t (r % t)
-  same-divisor = gcd-turned d r a t before (omega arith) t-below ∙ gcd-step r t b (r % t) (sym (div-add-mod' r t)) left-below
+  same-divisor =
+      gcd-turned d r a t before (omega arith) t-below ∙ gcd-step r t b (r % t) (sym (div-add-mod' r t)) left-below
 
-  read-on : {s s₁ s₂ : Line} → After s (turn (wordOf a)) s₁ → After s₁ (wordOf b) s₂
+  -- there is room for the turned word, and then for the word
+  pub room-turned : s .bits + length (wordOf a) ≤ 96
+  room-turned = omega (arith, words-length, length-map (wordOf a) not, here .room)
+
+  pub room-word : {s₁ : Line} → After s (turn (wordOf a)) s₁ → s₁ .bits + length (wordOf b) ≤ 96
+  room-word e = omega (arith, words-length, here .room, e .bits)
+
+  read-on : {s₁ s₂ : Line} → After s (turn (wordOf a)) s₁ → After s₁ (wordOf b) s₂
       → numberFrom (numberOfLine s) (wordsToCome d r) ≡ numberFrom (numberOfLine s₂) (wordsToCome t (r % t))
-  read-on {s} e f =
+  read-on e f =
       let rest = wordsToCome t (r % t) in
       rw (f .number, e .number, words, number-append (numberOfLine s) (turn (wordOf a)) (wordOf b ++ rest))
       (number-append (numberFrom (numberOfLine s) (turn (wordOf a))) (wordOf b) rest)
 
-  -- there is room for the turned word, and then for the word
-  pub room-turned : (s : Line) (count : ℕ) → Room d r s count → s .bits + length (wordOf a) ≤ 96
-  room-turned s count h = omega (arith, words-length, length-map (wordOf a) not, h .room)
-
-  pub room-word : (s s₁ : Line) (count : ℕ) → Room d r s count → After s (turn (wordOf a)) s₁
-      → s₁ .bits + length (wordOf b) ≤ 96
-  room-word s s₁ count h e = omega (arith, words-length, h .room, e .bits)
-
-  pub going-again : (d₀ r₀ : ℕ) (s₀ : Line) (count₀ : ℕ) (s s₁ s₂ : Line) (count : ℕ)
-      → Going d₀ r₀ s₀ count₀ d r s count → After s (turn (wordOf a)) s₁ → After s₁ (wordOf b) s₂
-      → Going d₀ r₀ s₀ count₀ t (r % t) s₂ (count + 2)
-  going-again d₀ r₀ s₀ count₀ s s₁ s₂ count g e f = record {
+  pub going-again : {d₀ r₀ : ℕ} {s₀ : Line} {count₀ : ℕ} {s₁ s₂ : Line} → Going d₀ r₀ s₀ count₀ d r s count
+      → After s (turn (wordOf a)) s₁ → After s₁ (wordOf b) s₂ → Going d₀ r₀ s₀ count₀ t (r % t) s₂ (count + 2)
+  going-again g e f = record {
     here = record {
       turned = left-below;
-      range = omega (arith, t-below, g .here .turned, g .here .range);
+      range = omega (arith, t-below, here .turned, here .range);
       small = f .small;
-      some = omega (arith, e .bits, f .bits, g .here .some);
-      room = omega (arith, words-length, e .bits, f .bits, g .here .room);
-      few = omega (arith, ap length come, g .here .few);
+      some = omega (arith, e .bits, f .bits, here .some);
+      room = omega (arith, words-length, e .bits, f .bits, here .room);
+      few = omega (arith, ap length come, here .few);
     };
     bits = omega (arith, words-length, e .bits, f .bits, g .bits);
     number = sym (read-on e f) ∙ g .number;
@@ -110,11 +111,11 @@ module _ (d r : ℕ) (some : 1 ≤ r) (turned : r < d) where
   }
 
 -- at the end nothing is to come, and the answer is that of the start
-pub going-end : (d₀ r₀ : ℕ) (s₀ : Line) (count₀ d r : ℕ) (s : Line) (count : ℕ) (b : Block)
+pub going-end : {d₀ r₀ : ℕ} {s₀ : Line} {count₀ d r : ℕ} {s : Line} {count : ℕ} {b : Block}
     → Going d₀ r₀ s₀ count₀ d r s count → r ≡ 0
     → ((t : Bits) → length t ≡ s .bits → numberOf t ≡ numberOfLine s → b ≡ blockOf t)
     → Continued d₀ r₀ s₀ count₀ (Key b count d)
-going-end d₀ r₀ s₀ count₀ d r s count b g e block = record { answer = answer }
+going-end {d₀} {r₀} {s₀} {count₀} {d} {r} {s} {count} {b} g e block = record { answer = answer }
   where
     over : toCome d r ≡ []
     over = rw e (alternate-end true d)

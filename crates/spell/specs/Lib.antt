@@ -1,6 +1,5 @@
 pub mod Lines
 pub mod Spelling
-pub mod Limbs
 pub mod Measures
 pub mod Appending
 pub mod Aligning

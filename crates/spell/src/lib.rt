@@ -1,5 +1,5 @@
-// The key of a ratio in two machine words, by one Euclid: quotients don't depend on common factors, so none is taken out
-// first, and the last divisor is the greatest common one.
+// The key of a ratio in two machine words, by one Euclid: quotients don't depend on common factors, so none is taken
+// out first, and the last divisor is the greatest common one.
 use blocks::Block;
 use line::Line;
 ghost use mathlib.Core.Path.{_≡_};

@@ -1,4 +1,4 @@
--- The characters of a block's key: the zeros behind are counted on the word in which it ends.
+-- The zeros behind a key are counted on the word in which it ends: the low one, unless that holds zeros alone.
 use Prim.Native.Nat.{_≤_, _^_}
 use native.Mathlib.Omega.{arith}
 use lib.Bits.{bitOr}
@@ -14,24 +14,19 @@ high-zeros c = trailing-le 64 (bitOr (c .before .args .b .high) (2 ^ 63))
 low-zeros : (c : tie.Else1) → trailingZeros 32 (c .before .args .b .low) ≤ 32
 low-zeros c = trailing-le 32 (c .before .args .b .low)
 
-cast-result : tie.Need-cast-result
-cast-result c = record { fits = omega (arith, high-zeros c) }
+returns-high : tie.Need-returns
+returns-high c = characters-high (c .before .args .b) (search needs) (c .if1 .taken)
 
-sub-result : tie.Need-sub-result
-sub-result c = high-zeros c
-
-cast-result-2 : tie.Need-cast-result-2
-cast-result-2 c = record { fits = omega (arith, low-zeros c) }
-
-sub-result-2 : tie.Need-sub-result-2
-sub-result-2 c = omega (arith, low-zeros c)
-
-returns : tie.Need-returns
-returns c = characters-high (c .before .args .b) (search needs) (c .if1 .taken)
-
-returns-2 : tie.Need-returns-2
-returns-2 c = characters-low (c .before .args .b) (search needs) (c .if1 .left)
+returns-low : tie.Need-returns-2
+returns-low c = characters-low (c .before .args .b) (search needs) (c .if1 .left)
 
 pub characters-of-spec : {M : Type 1} → statement M
 characters-of-spec =
-    tie.close (tie.spec cast-result sub-result cast-result-2 sub-result-2 returns returns-2)
+    tie.close
+    (tie.spec
+    (λ c. omega (arith, high-zeros c))
+    high-zeros
+    (λ c. omega (arith, low-zeros c))
+    (λ c. omega (arith, low-zeros c))
+    returns-high
+    returns-low)

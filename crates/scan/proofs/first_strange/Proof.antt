@@ -1,10 +1,9 @@
--- `scan::first_strange` meets its contract. The loop's invariant: none of the characters passed is strange.
-use borrow.Author.Needs.{needs}
+-- The invariant: none of the characters passed is strange. The measure is what is left of the text.
 use mathlib.Core.Logic.{⊎-elim, inl, inr}
 use Prim.Native.Nat.{_≤_, _-_}
 use native.Mathlib.Omega.{arith}
 use lib.ListN.{length}
-use Rattle.scan.specs.Strange.{Passed, passed-none, passed-more, passed-strange, passed-all}
+use Rattle.scan.specs.Verdicts.{Passed, passed-none, passed-more, passed-strange, passed-all}
 use Rattle.scan.proofs.first_strange.Statement.{statement}
 use Rattle.scan.proofs.first_strange.Tie as tie
 
@@ -15,22 +14,13 @@ abbrev μ-loop : tie.MeasureT-loop
 μ-loop k i₀ i = length k - i
 
 loop-holds : tie.Need-loop-holds Inv-loop μ-loop
-loop-holds c = (search needs, passed-none (c .args .k .now))
+loop-holds c = (omega arith, passed-none (c .args .k .now))
 
-shared-slice-read-c : tie.Need-shared-slice-read-c Inv-loop μ-loop
-shared-slice-read-c c = omega arith
-
-returns : tie.Need-returns Inv-loop μ-loop
-returns c =
+returns-strange : tie.Need-returns Inv-loop μ-loop
+returns-strange c =
     let b = c .before .before .before .before in
     passed-strange (b .before .args .k .now) (b .loop .i) 0 (omega arith) (c .before .if1 .taken) (c .if2 .taken)
     (b .loop .inv .1)
-
-add-i : tie.Need-add-i Inv-loop μ-loop
-add-i c = omega arith
-
-loop-less : tie.Need-loop-less Inv-loop μ-loop
-loop-less c = omega arith
 
 loop-again : tie.Need-loop-again Inv-loop μ-loop
 loop-again c =
@@ -40,8 +30,8 @@ loop-again c =
           (⊎-elim (λ w. inr (w .1 .left)) (λ w. inl (w .left)) (c .if1 .came)) (b .loop .inv .1),
     )
 
-returns-2 : tie.Need-returns-2 Inv-loop μ-loop
-returns-2 c =
+returns-none : tie.Need-returns-2 Inv-loop μ-loop
+returns-none c =
     passed-all (c .before .before .args .k .now) (c .before .loop .i) (omega arith) (c .before .loop .inv .1)
 
 pub first-strange-spec : {M : Type 1} → statement M
@@ -51,9 +41,9 @@ first-strange-spec =
     Inv-loop
     μ-loop
     loop-holds
-    shared-slice-read-c
-    returns
-    add-i
-    loop-less
+    (λ c. omega arith)
+    returns-strange
+    (λ c. omega arith)
+    (λ c. omega arith)
     loop-again
-    returns-2)
+    returns-none)

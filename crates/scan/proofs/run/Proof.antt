@@ -1,5 +1,5 @@
--- `scan::run` counts the ones in front. The invariant: what is left is w without its first n bits, which are ones.
--- The measure is what is missing to 32. Assumes nothing.
+-- The invariant: what is left is w without its first n bits, which are ones. The loop ends at 32 or at a zero, and
+-- either way that is what is counted. The measure is what is missing to 32.
 use mathlib.Core.Path.{_≡_, refl}
 use Prim.Native.Nat.{_+_, _*_, _-_, _^_, _≤_}
 use native.Mathlib.Omega.{arith}
@@ -14,15 +14,6 @@ Inv-loop w left₀ n₀ left n = (left + 2 ^ 64 * 2 ^ n ≡ w * 2 ^ n + 2 ^ 64) 
 abbrev μ-loop : tie.MeasureT-loop
 μ-loop w left₀ n₀ left n = 32 - n
 
-loop-holds : tie.Need-loop-holds Inv-loop μ-loop
-loop-holds c = omega arith
-
-add-n : tie.Need-add-n Inv-loop μ-loop
-add-n c = omega arith
-
-loop-less : tie.Need-loop-less Inv-loop μ-loop
-loop-less c = omega arith
-
 loop-again : tie.Need-loop-again Inv-loop μ-loop
 loop-again c =
     let l = c .before .before .loop in
@@ -31,12 +22,15 @@ loop-again c =
     next-one (2 ^ (l .n)) (2 ^ 64) (2 ^ 63) w (l .left) refl (omega arith) (pow-pos (l .n)) (omega arith) (l .inv .0) in
     (rw (pow-add 2 (l .n) 1) next, omega arith)
 
-returns : tie.Need-returns Inv-loop μ-loop
-returns c = record { most = omega arith; ones = omega arith; stopped = λ h. omega arith }
-
-returns-2 : tie.Need-returns-2 Inv-loop μ-loop
-returns-2 c = record { most = omega arith; ones = omega arith; stopped = λ h. omega arith }
-
 pub run-spec : {M : Type 1} → statement M
 run-spec =
-    tie.close (tie.spec Inv-loop μ-loop loop-holds add-n loop-less loop-again returns returns-2)
+    tie.close
+    (tie.spec
+    Inv-loop
+    μ-loop
+    (λ c. omega arith)
+    (λ c. omega arith)
+    (λ c. omega arith)
+    loop-again
+    (λ c. record { most = omega arith; ones = omega arith; stopped = λ h. omega arith })
+    (λ c. record { most = omega arith; ones = omega arith; stopped = λ h. omega arith }))

@@ -1,11 +1,10 @@
--- `scan::take` gives what the published form gives. Where a word is due, the window is that of the string that is left;
--- where a turned word is due, the window's complement is that of the turned string, unless 64 zeros or the end come.
--- Assumes nothing.
-use borrow.Author.Needs.{needs}
+-- Where a word is due, the window is that of the string that is left. Where a turned word is due, the window's
+-- complement is that of the turned string, unless 64 zeros or the end come.
 use mathlib.Core.Path.{_≡_, refl, sym, _∙_}
 use mathlib.Core.Bool.{true, false}
 use Prim.Native.Nat.{_-_}
 use native.Mathlib.Omega.{arith}
+use borrow.Author.Needs.{needs}
 use lib.ListN.{length, drop, length-drop}
 use lib.Seq.{drop-drop}
 use Rattle.bits.specs.Strings.{Bits, turn}
@@ -13,8 +12,8 @@ use Rattle.bits.specs.Binary.{numberOf, firstBits}
 use Rattle.blocks.specs.Blocks.{bitsOfBlock}
 use Rattle.blocks.specs.Laws.{block-length}
 use Rattle.scan.specs.declared.Kind.the-variants.{Word, Turned}
-use Rattle.scan.specs.Taking.{takenFrom, takenAt}
-use Rattle.scan.specs.Ended.{turned-window, not-ended, long-turned, end-turned, end-in-two, taken-at}
+use Rattle.scan.specs.Taking.{takenFrom, takenAt, taken-at}
+use Rattle.scan.specs.Ended.{turned-window, not-ended, long-turned, end-turned, end-in-two}
 use Rattle.scan.proofs.take.Statement.{statement}
 use Rattle.scan.proofs.take.Tie as tie
 
@@ -22,91 +21,73 @@ use Rattle.scan.proofs.take.Tie as tie
 abbrev left : tie.Start → Bits
 left c = drop (c .args .place .used) (bitsOfBlock (c .args .b))
 
-left-length : (c : tie.Start) → length (left c) ≡ 96 - c .args .place .used
-left-length c = rw (length-drop, block-length)
+returns-word : tie.Need-returns-3
+returns-word c =
+    let start = c .before .before .before .before in
+    c .word .ensures false (left start) refl (sym (c .before .before .before .window .ensures))
+    ∙ taken-at (bitsOfBlock (start .args .b)) (start .args .place) Word (c .before .enum-told .given .1)
 
--- where a turned word is due: the entry, the window, and what the contract asks for
-abbrev start : tie.After-enum-told2 → tie.Start
-start c = c .before .before .before
+-- where a turned word is due: what is left, its length, its window, and what the contract asks for
+abbrev rest : tie.After-enum-told2 → Bits
+rest c = left (c .before .before .before)
 
-first : (c : tie.After-enum-told2) → c .before .before .window .result ≡ numberOf (firstBits false 64 (left (start c)))
+rest-length : (c : tie.After-enum-told2) → length (rest c) ≡ 96 - c .before .before .before .args .place .used
+rest-length c = rw (length-drop, block-length)
+
+first : (c : tie.After-enum-told2) → c .before .before .window .result ≡ numberOf (firstBits false 64 (rest c))
 first c = c .before .before .window .ensures
 
-turned : (c : tie.After-enum-told2)
-    → takenFrom true (turn (left (start c))) ≡ takenAt (bitsOfBlock (start c .args .b)) (start c .args .place)
-turned c = taken-at (bitsOfBlock (start c .args .b)) (start c .args .place) Turned (c .enum-told2 .given .1)
+turned : (c : tie.After-enum-told2) → let start = c .before .before .before in
+    takenFrom true (turn (rest c)) ≡ takenAt (bitsOfBlock (start .args .b)) (start .args .place)
+turned c =
+    let start = c .before .before .before in
+    taken-at (bitsOfBlock (start .args .b)) (start .args .place) Turned (c .enum-told2 .given .1)
 
-window-requires : tie.Need-window-requires
-window-requires c κs = search needs
-
-enum-told : tie.Need-enum-told
-enum-told c = search needs
-
-word-requires : tie.Need-word-requires
-word-requires c κs = search needs
-
-enum-told-2 : tie.Need-enum-told-2
-enum-told-2 c = search needs
-
-sub-word : tie.Need-sub-word
-sub-word c = search needs
-
-word-requires-2 : tie.Need-word-requires-2
-word-requires-2 c κs = search needs
-
-returns : tie.Need-returns
-returns c =
+returns-turned : tie.Need-returns
+returns-turned c =
     let at = c .before .before in
-    let s = left (start at) in
-    let w = first at in
-    c .word2 .ensures true (turn s) (not-ended 64 s λ e. c .before .if1 .taken (w ∙ e)) (turned-window s _ w)
-    ∙ turned at
+    let s = rest at in
+    c .word2 .ensures true (turn s) (not-ended 64 s λ e. c .before .if1 .taken (first at ∙ e))
+    (turned-window s _ (first at)) ∙ turned at
 
-add-window : tie.Need-add-window
-add-window c = search needs
+-- the window is all zeros, and so the next may be
+zeros : (c : tie.Else1) → numberOf (firstBits false 64 (rest (c .before))) ≡ 0
+zeros c = sym (first (c .before)) ∙ c .if1 .left
 
-window-requires-2 : tie.Need-window-requires-2
-window-requires-2 c κs = search needs
+next : (c : tie.After-window2)
+    → c .window2 .result ≡ numberOf (firstBits false 64 (drop 64 (rest (c .before .before .before))))
+next c = rw drop-drop (c .window2 .ensures)
 
-returns-2 : tie.Need-returns-2
-returns-2 c =
-    let at = c .before .before .before .before in
-    long-turned (left (start at)) (sym (first at) ∙ c .before .before .before .if1 .left)
-    (λ e. c .if3 .taken (c .before .window2 .ensures ∙ rw drop-drop at e)) ∙ turned at
+returns-long : tie.Need-returns-2
+returns-long c =
+    let all = c .before .before .before in
+    long-turned (rest (all .before)) (zeros all) (λ e. c .if3 .taken (next (c .before) ∙ e)) ∙ turned (all .before)
 
-returns-3 : tie.Need-returns-3
-returns-3 c =
-    let begin = c .before .before .before .before in
-    c .word .ensures false (left begin) refl (sym (c .before .before .before .window .ensures))
-    ∙ taken-at (bitsOfBlock (begin .args .b)) (begin .args .place) Word (c .before .enum-told .given .1)
+returns-end-two : tie.Need-returns-4
+returns-end-two c =
+    let all = c .before .before .before in
+    end-in-two (rest (all .before)) (omega (arith, rest-length (all .before))) (zeros all)
+    (sym (next (c .before)) ∙ c .if3 .left) ∙ turned (all .before)
 
-returns-4 : tie.Need-returns-4
-returns-4 c =
-    let at = c .before .before .before .before in
-    end-in-two (left (start at)) (omega (arith, left-length (start at)))
-    (sym (first at) ∙ c .before .before .before .if1 .left)
-    (rw drop-drop (sym (c .before .window2 .ensures) ∙ c .if3 .left)) ∙ turned at
-
-returns-5 : tie.Need-returns-5
-returns-5 c =
-    let at = c .before .before in
-    end-turned 64 (left (start at)) (omega (arith, left-length (start at)))
-    (sym (first at) ∙ c .before .if1 .left) ∙ turned at
+returns-end : tie.Need-returns-5
+returns-end c =
+    let all = c .before in
+    end-turned 64 (rest (all .before)) (omega (arith, rest-length (all .before))) (zeros all) ∙ turned (all .before)
 
 pub take-spec : {M : Type 1} → statement M
 take-spec =
     tie.close
     (tie.spec
-    window-requires
-    enum-told
-    word-requires
-    enum-told-2
-    sub-word
-    word-requires-2
-    returns
-    add-window
-    window-requires-2
-    returns-2
-    returns-3
-    returns-4
-    returns-5)
+    (λ c κs. search needs)
+    (λ c. search needs)
+    (λ c κs. search needs)
+    (λ c. search needs)
+    (λ c. search needs)
+    (λ c κs. search needs)
+    returns-turned
+    (λ c. search needs)
+    (λ c κs. search needs)
+    returns-long
+    returns-word
+    returns-end-two
+    returns-end)

@@ -1,57 +1,42 @@
--- `scan::window` gives 64 bits of a block's string as a number, by the word of the block in which they begin. The sum
--- fits, since it is that number. Assumes nothing.
-use borrow.Author.Needs.{needs}
+-- The window is made by the word of the block in which it begins. The sum fits, since it is the window's number.
 use mathlib.Core.Bool.{false}
 use native.Mathlib.Omega.{arith}
+use borrow.Author.Needs.{needs}
 use lib.ListN.{drop}
+use Rattle.bits.specs.Sums.{first-lt}
 use Rattle.blocks.specs.Blocks.{bitsOfBlock}
-use Rattle.scan.specs.Windows.{piece-lt, window-high, window-low, window-none}
+use Rattle.scan.specs.Windows.{window-high, window-low, window-none}
 use Rattle.scan.proofs.window.Statement.{statement}
 use Rattle.scan.proofs.window.Tie as tie
 
-cast-rest : tie.Need-cast-rest
-cast-rest c = search needs
-
-shl-result : tie.Need-shl-result
-shl-result c = search needs
-
-sub-result : tie.Need-sub-result
-sub-result c = search needs
-
-shr-result : tie.Need-shr-result
-shr-result c = search needs
-
-returns : tie.Need-returns
-returns c =
+returns-high : tie.Need-returns
+returns-high c =
     let a = c .before .args in window-high (a .b) (omega arith) (omega arith) (a .used) (omega arith)
 
-add-result : tie.Need-add-result
-add-result c =
+sum-fits : tie.Need-add-result
+sum-fits c =
     let a = c .before .args in
-    record { fits = omega (arith, returns c, piece-lt false 64 (drop (a .used) (bitsOfBlock (a .b)))) }
+    omega (arith, returns-high c, first-lt false 64 (drop (a .used) (bitsOfBlock (a .b))))
 
-shl-result-2 : tie.Need-shl-result-2
-shl-result-2 c = search needs
-
-returns-2 : tie.Need-returns-2
-returns-2 c =
+returns-low : tie.Need-returns-2
+returns-low c =
     let a = c .before .before .args in
     window-low (a .b) (omega arith) (omega arith) (a .used) (omega arith) (omega arith)
 
-returns-3 : tie.Need-returns-3
-returns-3 c =
+returns-none : tie.Need-returns-3
+returns-none c =
     let a = c .before .before .args in window-none (a .b) (omega arith) (omega arith) (a .used) (omega arith)
 
 pub window-spec : {M : Type 1} → statement M
 window-spec =
     tie.close
     (tie.spec
-    cast-rest
-    shl-result
-    sub-result
-    shr-result
-    add-result
-    returns
-    shl-result-2
-    returns-2
-    returns-3)
+    (λ c. search needs)
+    (λ c. search needs)
+    (λ c. search needs)
+    (λ c. search needs)
+    sum-fits
+    returns-high
+    (λ c. search needs)
+    returns-low
+    returns-none)

@@ -1,4 +1,5 @@
--- `spell::spell` meets its contract: the loop begins behind the leading character or the word of the whole part.
+-- The loop goes on from a leading 0 where the ratio is below 1, and else from 1 and the word of the whole part. So it
+-- gives the block of all that is written.
 use mathlib.Core.Bool.{true, false}
 use mathlib.Core.List.{[], _∷_}
 use Prim.Native.Nat.{_≤_, _<_, _^_, _/_}
@@ -7,20 +8,14 @@ use borrow.Author.Needs.{needs}
 use borrow.Author.Tests.{eq-eqb}
 use lib.Dec.{lit<}
 use Rattle.families.specs.Words.{wordOf}
-use Rattle.spell.specs.Beginning.{begun-below, begun-from, begun-room, begun-answer, whole-fits}
+use Rattle.spell.specs.Beginning.{Begun, begun-below, begun-from, begun-room, begun-answer, whole-fits}
 use Rattle.spell.specs.Spelling.{spelling}
 use Rattle.spell.proofs.spell.Statement.{statement}
 use Rattle.spell.proofs.spell.Tie as tie
 
-returns : tie.Need-returns
+returns-refused : tie.Need-returns
 unfolding spelling
-returns c = simp (eq-eqb _ _ (c .if1 .taken))
-
-div-a : tie.Need-div-a
-div-a c = search needs
-
-rem-r : tie.Need-rem-r
-rem-r c = search needs
+returns-refused c = simp (eq-eqb _ _ (c .if1 .taken))
 
 positive : (c : tie.Else1) → 1 ≤ c .before .args .q
 positive c = omega (arith, c .if1 .left)
@@ -31,57 +26,50 @@ high c = search needs
 low : (c : tie.Else1) → c .before .args .q < 2 ^ 32
 low c = search needs
 
-go-on-requires : tie.Need-go-on-requires
-go-on-requires c κs =
-    let p = c .before .before .args .p in
-    let q = c .before .before .args .q in
-    let h = positive (c .before) in
-    begun-room p q h (high (c .before)) (low (c .before)) (false ∷ []) _ 0 (begun-below p q h (c .if2 .taken))
+below : (c : tie.Then2) → let args = c .before .before .args in
+    Begun (args .p) (args .q) (false ∷ []) (record { high = 0; low = 0; bits = 1 }) 0
+below c = begun-below (c .before .before .args .p) (positive (c .before)) (c .if2 .taken)
+
+below-requires : tie.Need-go-on-requires
+below-requires c κs = begun-room (positive (c .before)) (high (c .before)) (low (c .before)) (below c)
 
 returns-below : tie.Need-returns-2
 returns-below c =
-    let p = c .before .before .before .args .p in
-    let q = c .before .before .before .args .q in
     let start = c .before .before in
-    let h = positive start in
-    begun-answer p q h (high start) (low start) (false ∷ []) _ 0 (begun-below p q h (c .before .if2 .taken))
-    (c .go-on .result) (c .go-on .ensures)
+    begun-answer (positive start) (high start) (low start) (below (c .before)) (c .go-on .ensures)
+
+above : (c : tie.Else2) → 1 ≤ c .before .before .args .p / c .before .before .args .q
+above c = omega (arith, c .if2 .left)
 
 append-word-requires : tie.Need-append-word-requires
 append-word-requires c κs =
     let start = c .before in
-    let some : 1 ≤ start .before .args .p / start .before .args .q = omega (arith, c .if2 .left) in
-    (some, (lit< tt, whole-fits (start .before .args .p) (start .before .args .q) (positive start) (high start) (low start) some))
+    (above c, (lit< tt, whole-fits (start .before .args .p) (positive start) (above c) (high start) (low start)))
 
-go-on-requires-2 : tie.Need-go-on-requires-2
-go-on-requires-2 c κs =
-    let p = c .before .before .before .args .p in
-    let q = c .before .before .before .args .q in
+from : (c : tie.After-append-word) → let args = c .before .before .before .args in
+    Begun (args .p) (args .q) (true ∷ wordOf (args .p / args .q)) (c .append-word .result) 1
+from c =
     let start = c .before .before in
-    let h = positive start in
-    begun-room p q h (high start) (low start) (true ∷ wordOf (p / q)) (c .append-word .result) 1
-    (begun-from p q h (c .append-word .result) (omega (arith, c .before .if2 .left)) (c .append-word .ensures))
+    begun-from (start .before .args .p) (positive start) (above (c .before)) (c .append-word .ensures)
+
+from-requires : tie.Need-go-on-requires-2
+from-requires c κs =
+    let start = c .before .before in begun-room (positive start) (high start) (low start) (from c)
 
 returns-from : tie.Need-returns-3
 returns-from c =
-    let p = c .before .before .before .before .args .p in
-    let q = c .before .before .before .before .args .q in
     let start = c .before .before .before in
-    let h = positive start in
-    let s = c .before .append-word in
-    begun-answer p q h (high start) (low start) (true ∷ wordOf (p / q)) (s .result) 1
-    (begun-from p q h (s .result) (omega (arith, c .before .before .if2 .left)) (s .ensures))
-    (c .go-on2 .result) (c .go-on2 .ensures)
+    begun-answer (positive start) (high start) (low start) (from (c .before)) (c .go-on2 .ensures)
 
 pub spell-spec : {M : Type 1} → statement M
 spell-spec =
     tie.close
     (tie.spec
-    returns
-    div-a
-    rem-r
-    go-on-requires
+    returns-refused
+    (λ c. search needs)
+    (λ c. search needs)
+    below-requires
     returns-below
     append-word-requires
-    go-on-requires-2
+    from-requires
     returns-from)

@@ -1,10 +1,10 @@
--- `put::text::put_few` meets its contract. The loop's invariant: the word's bits are put out up to the place, and what
--- is left of the word holds the rest. The measure is the bits to come. Assumes nothing.
+-- The invariant: the characters up to the place are put out, and the word holds the bits to come, whose number is the
+-- measure.
 use mathlib.Core.Path.{_≡_}
 use Prim.Native.Nat.{_-_, _≤_}
 use native.Mathlib.Omega.{arith}
 use Rattle.bits.specs.Binary.{digitsIn}
-use Rattle.put.specs.TextLaws.{PutTo, put-none, put-one}
+use Rattle.put.specs.Piecewise.{PutTo, put-none, put-one}
 use Rattle.put.proofs.text.put_few.Statement.{statement}
 use Rattle.put.proofs.text.put_few.Tie as tie
 
@@ -17,26 +17,8 @@ abbrev μ-loop : tie.MeasureT-loop
 loop-holds : tie.Need-loop-holds Inv-loop μ-loop
 loop-holds c = (omega arith, put-none (c .args .word) (c .args .out .now) (c .fits .word .fits))
 
-cast-out : tie.Need-cast-out Inv-loop μ-loop
-cast-out c = omega arith
-
-add-out : tie.Need-add-out Inv-loop μ-loop
-add-out c = omega arith
-
-slice-write-out : tie.Need-slice-write-out Inv-loop μ-loop
-slice-write-out c = omega arith
-
-add-at : tie.Need-add-at Inv-loop μ-loop
-add-at c = omega arith
-
-loop-less : tie.Need-loop-less Inv-loop μ-loop
-loop-less c = omega arith
-
 loop-again : tie.Need-loop-again Inv-loop μ-loop
 loop-again c = (omega arith, put-one (c .before .loop .inv .1) (omega arith) (omega arith))
-
-same-length : tie.Need-same-length Inv-loop μ-loop
-same-length c = omega arith
 
 returns : tie.Need-returns Inv-loop μ-loop
 returns c =
@@ -50,11 +32,11 @@ put-few-spec =
     Inv-loop
     μ-loop
     loop-holds
-    cast-out
-    add-out
-    slice-write-out
-    add-at
-    loop-less
+    (λ c. omega arith)
+    (λ c. omega arith)
+    (λ c. omega arith)
+    (λ c. omega arith)
+    (λ c. omega arith)
     loop-again
-    same-length
+    (λ c. omega arith)
     returns)

@@ -1,4 +1,4 @@
--- `spell::line::measure` meets its contract: leading zeros count the digits.
+-- Leading zeros count the binary digits of a, which its lowest digit doesn't change.
 use mathlib.Core.Path.{refl}
 use Prim.Native.Nat.{_≤_, _<_, _^_}
 use native.Mathlib.Omega.{arith}
@@ -15,20 +15,15 @@ fits c = search needs
 few : (c : tie.Start) → leadingZeros 32 (bitOr (c .args .a) 1) ≤ 31
 few c = zeros-few (c .args .a) (c .pre) (fits c)
 
-mul-t3 : tie.Need-mul-t3
-mul-t3 c = omega (arith, few c)
-
-sub-t4 : tie.Need-sub-t4
-sub-t4 c = omega (arith, few c)
-
-cast-t5 : tie.Need-cast-t5
-cast-t5 c = omega (arith, few c)
-
-shr-t6 : tie.Need-shr-t6
-shr-t6 c = omega (arith, few c)
-
 returns : tie.Need-returns
 returns c = measured (c .args .a) (c .pre) (fits c) _ refl refl
 
 pub measure-spec : {M : Type 1} → statement M
-measure-spec = tie.close (tie.spec mul-t3 sub-t4 cast-t5 shr-t6 returns)
+measure-spec =
+    tie.close
+    (tie.spec
+    (λ c. omega (arith, few c))
+    (λ c. omega (arith, few c))
+    (λ c. omega (arith, few c))
+    (λ c. omega (arith, few c))
+    returns)

@@ -1,0 +1,31 @@
+-- Lent memory: a part that is lent and comes back, and text at the front.
+use mathlib.Core.Path.{_≡_}
+use mathlib.Core.List.{List, _++_, append-assoc, append-nil}
+use Prim.Native.Nat.{ℕ, _-_, _≤_}
+use native.Mathlib.Nat.{zero-add}
+use native.Mathlib.Omega.{arith}
+use lib.ListN.{length, take, drop, length-append, length-drop, drop-of-length-le}
+use lib.Seq.{take-all, take-at, drop-at, drop-drop, sets, sets-eq}
+use Rattle.bits.specs.Texts.{inFront}
+
+-- stores one after the other, from the front on
+pub stored-front : (t m : List ℕ) → length t ≤ length m → sets m 0 t ≡ inFront t m
+stored-front t m h = rw zero-add at (sets-eq t m 0 (omega arith))
+
+-- text behind text
+pub front-more : (t u m : List ℕ) (n : ℕ) → length t ≡ n
+    → take n (inFront t m) ++ inFront u (drop n (inFront t m)) ≡ inFront (t ++ u) m
+front-more t u m n e =
+    let rest = drop (length t) m in
+    rw (take-at t rest n e, drop-at t rest n e, drop-drop, length-append, append-assoc)
+
+-- memory from a place on, as it is lent
+pub lent-part : (m : List ℕ) (at : ℕ) → take (length m - at) (drop at m) ≡ drop at m
+lent-part m at = take-all (length m - at) (drop at m) (omega (arith, length-drop at m))
+
+-- the whole, where that part has come back with a text at its front
+pub lent-back : (t m : List ℕ) {part : List ℕ} (at : ℕ) → part ≡ inFront t (take (length m - at) (drop at m))
+    → take at m ++ (part ++ drop (length m - at) (drop at m)) ≡ take at m ++ inFront t (drop at m)
+lent-back t m at e =
+    let h : length (drop at m) ≤ length m - at = omega (arith, length-drop at m) in
+    rw (drop-of-length-le (drop at m) h, append-nil, e, lent-part)
