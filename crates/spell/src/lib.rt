@@ -3,7 +3,6 @@
 use blocks::Block;
 use line::Line;
 ghost use mathlib.Core.Path.{_≡_};
-ghost use Prim.Native.Nat.{_<_};
 ghost use Rattle.spell.specs.Spelling.{spelling, Continued, Room};
 
 mod line;

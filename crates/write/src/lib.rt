@@ -42,16 +42,16 @@ pub fn write_column(p: u32, q: u32, out: &mut [u8]) -> Written
         Spelled::ZeroDenominator => Written::ZeroDenominator,
         Spelled::Key {
             block,
-            quotients,
+            quotients: count,
             divisor: _,
         } => {
-            let characters = put::put_column(block, out);
-            if characters == 0 {
+            let length = put::put_column(block, out);
+            if length == 0 {
                 return Written::ShortBuffer;
             }
             Written::Key {
-                characters,
-                quotients,
+                characters: length,
+                quotients: count,
             }
         }
     }
