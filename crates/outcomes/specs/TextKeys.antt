@@ -1,7 +1,7 @@
 -- Text keys and canonical keys are the same: a text that no fault is found in is the text of its bits, which are a
 -- canonical key; and the text of a canonical key of at most 96 characters has no fault.
 use mathlib.Core.Path.{_≡_, refl, sym, _∙_, ap, subst}
-use mathlib.Core.Bool.{Bool, true, false, cond, _&&_, _||_, true≢false}
+use mathlib.Core.Bool.{Bool, true, false, cond, _&&_, _||_, true≢false, and-false}
 use mathlib.Core.Logic.{_⊎_, inl, inr}
 use mathlib.Core.List.{List, [], _∷_, _++_}
 use Prim.Native.Nat.{ℕ, zero, suc, _+_, _-_, _≤_, _<_}
@@ -65,11 +65,7 @@ one-last a (b ∷ s) e =
 -- the last character of a canonical key is 1, unless it is the only one
 closed-last : (s : Bits) → Canonical s → (openKey (textOf s)) .1 ≡ false
 closed-last s (inl e) = rw e
-closed-last s (inr (t, e)) = by-size (ltb 1 (length (textOf s)))
-  where
-    by-size : (b : Bool) → b && eqb (last (textOf s)) 48 ≡ false
-    by-size true = rw (e, last-one t)
-    by-size false = refl
+closed-last s (inr (t, e)) = rw (e, last-one t, and-false)
 
 -- the text of a canonical key
 pub text-clear : (s : Bits) → Canonical s → length s ≤ 96 → Clear (keyRefusals (textOf s) [])

@@ -1,11 +1,12 @@
 -- A column of another length is refused. Else `four` gives its three parts, of which the block is made.
+use native.Mathlib.Omega.{arith}
 use borrow.Author.Needs.{needs}
 use Rattle.load.specs.Bytes.{column-wrong, column-loaded}
 use Rattle.load.proofs.load_column.Statement.{statement}
 use Rattle.load.proofs.load_column.Tie as tie
 
 returns-wrong : tie.Need-returns
-returns-wrong c = column-wrong (c .before .before .args .c .now) (c .if1 .taken)
+returns-wrong c = column-wrong (c .before .before .args .c .now) λ e. omega (arith, c .if1 .taken)
 
 returns-loaded : tie.Need-returns-2
 returns-loaded c =

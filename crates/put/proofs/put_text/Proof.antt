@@ -14,7 +14,7 @@ use Rattle.put.proofs.put_text.Tie as tie
 
 returns-short : tie.Need-returns
 unfolding textPut
-returns-short c = rw (lt-ltb (length (c .before .before .args .out .now)) 96 (c .if1 .taken))
+returns-short c = rw (lt-ltb (length (c .before .before .args .out .now)) 96 (omega arith))
 
 low-requires : tie.Need-put-bits-requires-3
 low-requires c κs =

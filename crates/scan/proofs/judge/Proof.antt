@@ -1,6 +1,7 @@
 -- Each return cites the judgement's law for the tests that led there.
 use mathlib.Core.List.{List}
 use Prim.Native.Nat.{ℕ}
+use native.Mathlib.Omega.{arith}
 use borrow.Author.Needs.{needs}
 use Rattle.scan.specs.Verdicts.{
   Cleared,
@@ -19,7 +20,7 @@ returns-empty : tie.Need-returns
 returns-empty c = judged-empty (c .before .before .args .k .now) (c .if1 .taken)
 
 returns-long : tie.Need-returns-2
-returns-long c = judged-long (c .before .before .before .args .k .now) (c .before .if1 .left) (c .if2 .taken)
+returns-long c = judged-long (c .before .before .before .args .k .now) (c .before .if1 .left) (omega arith)
 
 -- the text, where the first strange character was looked for
 abbrev text : tie.After-first-strange → List ℕ

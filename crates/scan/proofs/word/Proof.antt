@@ -8,7 +8,7 @@ use Rattle.scan.proofs.word.Statement.{statement}
 use Rattle.scan.proofs.word.Tie as tie
 
 returns-long : tie.Need-returns
-returns-long c = λ z s h e. taken-long z s h e (c .before .run .ensures) (c .if1 .taken)
+returns-long c = λ z s h e. taken-long z s h e (c .before .run .ensures) (omega arith)
 
 leading-fits : tie.Need-add-t6
 leading-fits c = omega (arith, shifted-small (c .before .run .ensures) (omega arith))
