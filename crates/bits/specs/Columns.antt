@@ -39,7 +39,8 @@ pub bytes-of-bits : (l : List ℕ) → ((i : ℕ) → getD l i 0 < 256) → byte
 bytes-of-bits [] h = refl
 bytes-of-bits (c ∷ l) h =
     let d = digitsIn 8 c in
-    let first : firstBits false 8 (d ++ bitsOfBytes l) ≡ d = rw length-digits at (first-append false d (bitsOfBytes l)) in
+    let first : firstBits false 8 (d ++ bitsOfBytes l) ≡ d =
+    rw length-digits at (first-append false d (bitsOfBytes l)) in
     let head : numberOf (firstBits false 8 (d ++ bitsOfBytes l)) ≡ c = rw first (number-of-digits 8 c (h 0)) in
     let rest : drop 8 (d ++ bitsOfBytes l) ≡ bitsOfBytes l = drop-at d (bitsOfBytes l) 8 (length-digits 8 c) in
     λ i. head i ∷ (ap (bytesOf (length l)) rest ∙ bytes-of-bits l (λ j. h (suc j))) i

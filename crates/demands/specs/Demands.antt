@@ -28,8 +28,10 @@ pub record Refuses (o : Outcome) (order : List Refusal) (lent : List ℕ) : Type
 
 -- Demand 1. Every call checks its input itself: for each, the order of its refusals.
 pub record Checked : Type 0 where
-  pub writing-text : (p q : ℕ) (m : List ℕ) → Refuses (writeText p q m) (zeroDenominator q ∷ shortBuffer 96 m ∷ []) m
-  pub writing-column : (p q : ℕ) (m : List ℕ) → Refuses (writeColumn p q m) (zeroDenominator q ∷ shortBuffer 12 m ∷ []) m
+  pub writing-text : (p q : ℕ) (m : List ℕ)
+      → Refuses (writeText p q m) (zeroDenominator q ∷ shortBuffer 96 m ∷ []) m
+  pub writing-column : (p q : ℕ) (m : List ℕ)
+      → Refuses (writeColumn p q m) (zeroDenominator q ∷ shortBuffer 12 m ∷ []) m
   pub reading-text : (k : List ℕ)
       → Refuses (readText k) (keyRefusals k (outOfRange (valueOfKey words1983 (bitsOfText k)) ∷ [])) []
   pub reading-column : (c : List ℕ)
@@ -77,8 +79,8 @@ pub record Faithful : Type 0 where
 
 -- Demand 3.
 pub record Near : Type 0 where
-  -- Take any key for a value p/q below 1 and keep its first n characters. Let a/b be the value of what remains. Then a/b
-  -- is never above p/q, and (pb - aq) * 3^(n-1) < 2^(n-1) * qb.
+  -- Take any key for a value p/q below 1 and keep its first n characters. Let a/b be the value of what remains. Then
+  -- a/b is never above p/q, and (pb - aq) * 3^(n-1) < 2^(n-1) * qb.
   pub distance : (k : Bits) (n p q a b : ℕ) → Canonical k → 1 ≤ n
       → valueOfKey words1983 k ≡ p over q → p < q → valueOfKey words1983 (cutTo n k) ≡ a over b
       → (a * q ≤ p * b) × ((p * b - a * q) * 3 ^ (n - 1) < 2 ^ (n - 1) * (q * b))

@@ -40,7 +40,8 @@ checked : Checked
 unfolding writeText writeColumn readText readColumn columnToText textToColumn reduce
 checked = record {
   writing-text = λ p q m.
-      refuses-first (zeroDenominator q ∷ shortBuffer 96 m ∷ []) (counts p q) m (inFront (textOf (keyOf words1983 p q)) m);
+      refuses-first (zeroDenominator q ∷ shortBuffer 96 m ∷ []) (counts p q) m
+      (inFront (textOf (keyOf words1983 p q)) m);
   writing-column = λ p q m.
       refuses-first (zeroDenominator q ∷ shortBuffer 12 m ∷ []) (counts p q) m
       (inFront (columnOf (keyOf words1983 p q)) m);

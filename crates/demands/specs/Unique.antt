@@ -1,6 +1,6 @@
--- Any two outcomes that the contract of a call allows are identical, answer and memory. A contract says that the answer's
--- number and values, and the memory at exit, are the call's outcome; so one outcome has to stand for one answer. (The
--- contract of a function without refusals is an equation for its result already.)
+-- Any two outcomes that the contract of a call allows are identical, answer and memory. A contract says that the
+-- answer's number and values, and the memory at exit, are the call's outcome; so one outcome has to stand for one
+-- answer. (The contract of a function without refusals is an equation for its result already.)
 use mathlib.Core.List.{List}
 use Prim.Native.Nat.{ℕ}
 use Rattle.outcomes.specs.Laws.{Determined, determined}

@@ -25,7 +25,8 @@ put-done true m after k r e p n = absurd (n (ap (λ (x : ℕ × List ℕ). x .0)
 put-done false m after k r e p n = (refl, (ap (λ (x : ℕ × List ℕ). x .0) p, ap (λ (x : ℕ × List ℕ). x .1) p))
 
 -- so a call that lends it the buffer, and has only a short one left to refuse, knows its outcome
-module _ (size : ℕ) (m after values : List ℕ) (k r : ℕ) (e : List ℕ) (put : Put (ltb (length m) size) m after k r e) where
+module _ (size : ℕ) (m after values : List ℕ) (k r : ℕ) (e : List ℕ)
+    (put : Put (ltb (length m) size) m after k r e) where
   abbrev outcome : Outcome
   outcome = called (shortBuffer size m ∷ []) values m after
 

@@ -1,6 +1,5 @@
 -- What was read is written again as it was; and text and column stand for each other, both ways. On outcomes alone.
 use mathlib.Core.Path.{_≡_, sym, _∙_, ap}
-use mathlib.Core.Bool.{false}
 use mathlib.Core.List.{List, [], _∷_, head-eq-of-cons-eq, tail-eq-of-cons-eq}
 use Prim.Native.Nat.{ℕ, _≤_}
 use native.Mathlib.Omega.{arith}
@@ -53,7 +52,8 @@ text-value k p q e =
     (same-terms v p q same, (canonical, text))
 
 pub text-lowest : (k : List ℕ) (p q : ℕ) → readText k ≡ gives (p ∷ q ∷ []) [] → lowestTerms p q ≡ p over q
-text-lowest k p q e = let (value, (canonical, text)) = text-value k p q e in value-lowest (bitsOfText k) p q canonical value
+text-lowest k p q e =
+    let (value, (canonical, text)) = text-value k p q e in value-lowest (bitsOfText k) p q canonical value
 
 pub text-again : (k m : List ℕ) (p q : ℕ) → readText k ≡ gives (p ∷ q ∷ []) [] → 96 ≤ length m
     → writeText p q m ≡ gives (length k ∷ countOf (formOf p q) ∷ []) (inFront k m)

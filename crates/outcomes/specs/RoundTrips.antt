@@ -1,31 +1,29 @@
 -- Writing and reading back, as text and as column, and changing between the two: on outcomes alone.
-use mathlib.Core.Path.{_≡_, refl, sym, _∙_, ap}
-use mathlib.Core.Bool.{Bool, true, false}
+use mathlib.Core.Path.{_≡_, _∙_, ap}
+use mathlib.Core.Bool.{false}
 use mathlib.Core.List.{List, [], _∷_}
-use Prim.Native.Nat.{ℕ, _+_, _*_, _≤_, _<_}
+use Prim.Native.Nat.{ℕ, _≤_}
 use native.Mathlib.Nat.{mul-le-mul-right}
 use native.Mathlib.Omega.{arith}
-use borrow.Author.Tests.{le-ltb, ltb-false, ne-eqb, eq-eqb, eqb-true}
-use lib.ListN.{length, getD, length-map}
-use Rattle.bits.specs.Strings.{Bits, Same, closed}
-use Rattle.bits.specs.Binary.{firstBits, bytesOf, bitsOfBytes}
-use Rattle.bits.specs.Texts.{charOf, textOf, bitsOfText, inFront}
-use Rattle.bits.specs.Trim.{closed-same, closed-length, closed-equal}
+use borrow.Author.Tests.{le-ltb, ne-eqb, eq-eqb}
+use lib.ListN.{length, getD}
+use Rattle.bits.specs.Strings.{Bits, Same}
+use Rattle.bits.specs.Binary.{bitsOfBytes}
+use Rattle.bits.specs.Texts.{textOf, bitsOfText, inFront}
 use Rattle.bits.specs.Pieces.{same-piece}
-use Rattle.bits.specs.Columns.{bytes-same, bytes-length, bits-length, bits-of-bytes, bytes-of-bits}
+use Rattle.bits.specs.Columns.{bytes-length, bits-of-bytes}
 use Rattle.families.specs.Published.{words1983}
-use Rattle.fractions.specs.Fractions.{Ratio, _over_, lowestTerms, formOf}
+use Rattle.fractions.specs.Fractions.{Ratio, lowestTerms}
 use Rattle.fractions.specs.Euclid.{usual-scaled, usual-value}
-use Rattle.keys.specs.Keys.{Canonical, keyOf, countOf, valueOfKey, columnOf}
+use Rattle.keys.specs.Keys.{keyOf, valueOfKey, columnOf}
 use Rattle.keys.specs.Size.{limit, key-size}
-use Rattle.keys.specs.Back.{closed-canonical, canonical-closed, key-canonical, key-value, value-key, value-denominator, value-same}
-use Rattle.outcomes.specs.Outcomes.{Outcome, Refusal, gives, called}
+use Rattle.keys.specs.Back.{key-canonical, key-value, value-same}
+use Rattle.outcomes.specs.Outcomes.{Refusal, gives}
 use Rattle.outcomes.specs.Refusals.{zeroDenominator, shortBuffer, keyRefusals, outOfRange, wrongColumn}
-use Rattle.outcomes.specs.Laws.{Clear, clear-called, gives-clear}
-use Rattle.outcomes.specs.TextKeys.{bits-of-text, text-clear, clear-canonical}
+use Rattle.outcomes.specs.Laws.{Clear, clear-called}
+use Rattle.outcomes.specs.TextKeys.{bits-of-text, text-clear}
 use Rattle.outcomes.specs.Writing.{counts, writeText, writeColumn}
 use Rattle.outcomes.specs.Reading.{terms, readText, readColumn}
-use Rattle.outcomes.specs.Packing.{columnToText, textToColumn}
 
 -- a buffer that is large enough
 pub room : (n : ℕ) (m : List ℕ) → n ≤ length m → Clear (shortBuffer n m ∷ [])
@@ -52,10 +50,12 @@ column-written p q m positive h =
 in-range : (v : Ratio) → v .num ≤ limit → v .den ≤ limit → Clear (outOfRange v ∷ [])
 in-range v n d = (rw (le-ltb limit (v .num) n, le-ltb limit (v .den) d), tt)
 
-pub judged-more : (k : List ℕ) (more : List Refusal) → Clear (keyRefusals k []) → Clear more → Clear (keyRefusals k more)
+pub judged-more : (k : List ℕ) (more : List Refusal) → Clear (keyRefusals k []) → Clear more
+    → Clear (keyRefusals k more)
 judged-more k more (a, (b, (c, (d, u)))) r = (a, (b, (c, (d, r))))
 
-pub judged-first : (k : List ℕ) (more : List Refusal) → Clear (keyRefusals k more) → Clear (keyRefusals k []) × Clear more
+pub judged-first : (k : List ℕ) (more : List Refusal) → Clear (keyRefusals k more)
+    → Clear (keyRefusals k []) × Clear more
 judged-first k more (a, (b, (c, (d, r)))) = ((a, (b, (c, (d, tt)))), r)
 
 pub read-text : (k : List ℕ) (v : Ratio) → Clear (keyRefusals k []) → valueOfKey words1983 (bitsOfText k) ≡ v

@@ -1,20 +1,20 @@
 -- Text keys and canonical keys are the same: a text that no fault is found in is the text of its bits, which are a
 -- canonical key; and the text of a canonical key of at most 96 characters has no fault.
 use mathlib.Core.Path.{_≡_, refl, sym, _∙_, ap, subst}
-use mathlib.Core.Bool.{Bool, true, false, cond, _&&_, _||_, true≢false, and-false}
-use mathlib.Core.Logic.{_⊎_, inl, inr}
+use mathlib.Core.Bool.{Bool, true, false, cond, _||_, true≢false, and-false}
+use mathlib.Core.Logic.{inl, inr}
 use mathlib.Core.List.{List, [], _∷_, _++_}
-use Prim.Native.Nat.{ℕ, zero, suc, _+_, _-_, _≤_, _<_}
+use Prim.Native.Nat.{ℕ, suc, _+_, _-_, _≤_}
 use native.Mathlib.Numerals.{sub-one}
 use native.Mathlib.Omega.{arith}
-use borrow.Author.Tests.{le-ltb, lt-ltb, ltb-false, ne-eqb, eqb-true, eqb-false}
-use lib.Dec.{eqb, ltb}
-use lib.ListN.{length, getD, length-map, length-append}
+use borrow.Author.Tests.{le-ltb, lt-ltb, ltb-false, ne-eqb, eqb-true}
+use lib.Dec.{eqb}
+use lib.ListN.{length, getD, length-map}
 use Rattle.bits.specs.Strings.{Bits}
 use Rattle.bits.specs.Texts.{charOf, textOf, bitsOfText}
 use Rattle.keys.specs.Keys.{Canonical}
 use Rattle.keys.specs.Back.{not-canonical}
-use Rattle.outcomes.specs.Refusals.{firstStrange, emptyKey, longKey, strangeKey, openKey, keyRefusals}
+use Rattle.outcomes.specs.Refusals.{firstStrange, openKey, keyRefusals}
 use Rattle.outcomes.specs.Laws.{Clear}
 
 pub bits-of-text : (s : Bits) → bitsOfText (textOf s) ≡ s
@@ -89,7 +89,8 @@ last-canonical : (s : Bits) → Clear (keyRefusals (textOf s) []) → Canonical 
 last-canonical [] (e, r) = absurd (true≢false e)
 last-canonical (false ∷ []) c = inl refl
 last-canonical (true ∷ []) c = inr ([], refl)
-last-canonical (a ∷ b ∷ s) (e, (f, (g, (h, u)))) = inr (one-last a (b ∷ s) (rw (lt-ltb 1 (length (textOf (a ∷ b ∷ s))) (omega arith)) at h))
+last-canonical (a ∷ b ∷ s) (e, (f, (g, (h, u)))) =
+    inr (one-last a (b ∷ s) (rw (lt-ltb 1 (length (textOf (a ∷ b ∷ s))) (omega arith)) at h))
 
 -- the bits of a text with no fault
 pub clear-canonical : (k : List ℕ) → Clear (keyRefusals k [])

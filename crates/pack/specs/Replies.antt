@@ -17,7 +17,7 @@ use Rattle.blocks.specs.declared.Block.{Block}
 use Rattle.load.specs.Loading.{loaded}
 use Rattle.load.specs.Callers.{told-wrong, told-bits}
 use Rattle.load.specs.declared.Loaded.the-variants.{Bits, WrongColumn}
-use Rattle.outcomes.specs.Outcomes.{Outcome, gives, refuses, called}
+use Rattle.outcomes.specs.Outcomes.{gives, refuses, called}
 use Rattle.outcomes.specs.Refusals.{shortBuffer}
 use Rattle.outcomes.specs.Buffers.{Put, called-short, called-done}
 use Rattle.outcomes.specs.Packing.{columnToText, textToColumn}

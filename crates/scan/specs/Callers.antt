@@ -1,5 +1,5 @@
--- What a judgement tells a call that judges a text key first: its outcome where there is a fault, and else that the rest
--- of its refusals decide.
+-- What a judgement tells a call that judges a text key first: its outcome where there is a fault, and else that the
+-- rest of its refusals decide.
 use mathlib.Core.Path.{_≡_, refl}
 use mathlib.Core.Bool.{Bool, true, false, cond}
 use mathlib.Core.List.{List}

@@ -1,5 +1,5 @@
 -- What writing answers, by what spelling and putting out gave.
-use mathlib.Core.Path.{_≡_, sym, _∙_, ap}
+use mathlib.Core.Path.{_≡_, _∙_}
 use mathlib.Core.Bool.{false, cond}
 use mathlib.Core.List.{List, [], _∷_}
 use Prim.Native.Nat.{ℕ, _^_, _≤_, _<_}
@@ -10,7 +10,7 @@ use Rattle.bits.specs.Strings.{Bits, Same, closed}
 use Rattle.bits.specs.Texts.{textOf, inFront}
 use Rattle.bits.specs.Trim.{closed-equal}
 use Rattle.bits.specs.Columns.{bytes-same}
-use Rattle.blocks.specs.Blocks.{bitsOfBlock, blockOf}
+use Rattle.blocks.specs.Blocks.{bitsOfBlock}
 use Rattle.blocks.specs.Laws.{block-length, block-whole}
 use Rattle.blocks.specs.declared.Block.{Block}
 use Rattle.families.specs.Published.{words1983}
@@ -50,7 +50,8 @@ module _ (p q : ℕ) (small : p < 2 ^ 32) (low : q < 2 ^ 32) (b : Block) (n d : 
       ∙ closed-canonical key canonical
 
   -- t is put out into m, which wants size bytes
-  module _ (size : ℕ) (t m : List ℕ) (r : ℕ) (l : List ℕ) (put : Put (ltb (length m) size) m (inFront t m) (length key) r l) where
+  module _ (size : ℕ) (t m : List ℕ) (r : ℕ) (l : List ℕ)
+      (put : Put (ltb (length m) size) m (inFront t m) (length key) r l) where
     abbrev outcome : Outcome
     outcome = called (zeroDenominator q ∷ shortBuffer size m ∷ []) (counts p q) m (inFront t m)
 

@@ -40,4 +40,5 @@ returns-step t c =
 
 pub +greatest-divisor-spec : {M : Type 1} → statement M
 +greatest-divisor-spec =
-    close measure λ t. lts.spec (below t, reads.Post) (at t) reads.Post (returns t) (rem t) (falls-again t) (returns-step t)
+    close measure λ t.
+    lts.spec (below t, reads.Post) (at t) reads.Post (returns t) (rem t) (falls-again t) (returns-step t)

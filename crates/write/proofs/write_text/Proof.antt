@@ -6,18 +6,6 @@ use Rattle.write.specs.Replies.{text-zero, text-short, text-done}
 use Rattle.write.proofs.write_text.Statement.{statement}
 use Rattle.write.proofs.write_text.Tie as tie
 
-spell-requires : tie.Need-spell-requires
-spell-requires c κs = search needs
-
-enum-told : tie.Need-enum-told
-enum-told c = search needs
-
-enum-known-block : tie.Need-enum-known-block
-enum-known-block c = search needs
-
-put-text-requires : tie.Need-put-text-requires
-put-text-requires c κs = search needs
-
 small : (c : tie.Start) → c .args .p < 2 ^ 32
 small c = search needs
 
@@ -27,38 +15,32 @@ low c = search needs
 returns-zero : tie.Need-returns-2
 returns-zero c = text-zero _ _ _ (sym (c .enum-told .given .1) ∙ c .before .before .spell .ensures)
 
-same-length : tie.Need-same-length
-same-length c = search needs
-
 returns-short : tie.Need-returns
 returns-short c =
     let p = c .before .before .before in
     let x = p .before .before .before in
     let start = x .before .before .before .before in
-    text-short _ _ (small start) (low start) _ _ _ (sym (x .block .given .1) ∙ x .before .before .spell .ensures) _ _ _
-    (p .put-text .ensures) (c .if1 .taken)
-
-same-length-again : tie.Need-same-length-2
-same-length-again c = search needs
+    text-short _ _ (small start) (low start) _ _ _
+    (sym (x .block .given .1) ∙ x .before .before .spell .ensures) _ _ _ (p .put-text .ensures) (c .if1 .taken)
 
 returns-key : tie.Need-returns-3
 returns-key c =
     let p = c .before .before .before in
     let x = p .before .before .before in
     let start = x .before .before .before .before in
-    text-done _ _ (small start) (low start) _ _ _ (sym (x .block .given .1) ∙ x .before .before .spell .ensures) _ _ _
-    (p .put-text .ensures) (c .if1 .left)
+    text-done _ _ (small start) (low start) _ _ _
+    (sym (x .block .given .1) ∙ x .before .before .spell .ensures) _ _ _ (p .put-text .ensures) (c .if1 .left)
 
 pub write-text-spec : {M : Type 1} → statement M
 write-text-spec =
     tie.close
     (tie.spec
-    spell-requires
-    enum-told
-    enum-known-block
-    put-text-requires
-    same-length
+    (λ c κs. search needs)
+    (λ c. search needs)
+    (λ c. search needs)
+    (λ c κs. search needs)
+    (λ c. search needs)
     returns-short
     returns-zero
-    same-length-again
+    (λ c. search needs)
     returns-key)
