@@ -2,16 +2,12 @@
 // stopped, and how many characters a word took.
 use blocks::Block;
 ghost use mathlib.Core.Path.{_≡_};
-ghost use mathlib.Core.Bool.{Bool, false};
-ghost use lib.ListN.{drop};
-ghost use Rattle.bits.specs.Strings.{Bits};
-ghost use Rattle.bits.specs.Binary.{numberOf, firstBits};
-ghost use Rattle.families.specs.Families.{ended};
 ghost use Rattle.blocks.specs.Blocks.{bitsOfBlock};
 ghost use Rattle.outcomes.specs.Refusals.{firstStrange};
 ghost use Rattle.scan.specs.Judging.{judgement};
-ghost use Rattle.scan.specs.Taking.{takenFrom, takenAt};
-ghost use Rattle.scan.specs.Runs.{Counted};
+ghost use Rattle.scan.specs.Taking.{takenAt};
+
+mod words;
 
 // The faults of a text key, in the order in which they are judged: 3, 4, 5, 6.
 pub enum Fault {
@@ -38,6 +34,7 @@ pub struct Place {
     pub due: Kind,
 }
 
+// One word: its quotient and how many characters it took; a quotient above 4294967295; or the end of the key.
 pub enum Taken {
     Quotient { value: u32, characters: usize },
     Long,
@@ -96,55 +93,6 @@ pub fn judge(k: &[u8]) -> Judged
     Judged::Key
 }
 
-// The 64 bits of a block after the first used, extended by zeros.
-fn window(b: Block, used: usize) -> u64
-    ensures { λ r. ⌜ r ≡ numberOf (firstBits false 64 (drop used (bitsOfBlock b))) ⌝ }
-{
-    let high = b.high;
-    let low = b.low;
-    let rest = (low as u64) << 32;
-    if used < 64 {
-        return (high << used) + (rest >> 1 >> (63 - used));
-    }
-    if used < 96 {
-        return rest << (used - 64);
-    }
-    0
-}
-
-// The ones in front of w, counted until a zero is met, or until there are more than 31.
-fn run(w: u64) -> u32
-    ensures { λ r. ⌜ Counted w r ⌝ }
-{
-    let mut left = w;
-    let mut n = 0;
-    loop {
-        if 31 < n {
-            break n;
-        }
-        if left < 0x8000_0000_0000_0000 {
-            break n;
-        }
-        left = left << 1;
-        n += 1;
-    }
-}
-
-// The word in front of w. Its run says how many digits follow the zero that stops it; a leading one goes before them.
-fn word(w: u64) -> Taken
-    ensures { λ r.
-        ⌜ ((z : Bool) (s : Bits) → ended z s ≡ false → numberOf (firstBits z 64 s) ≡ w → r ≡ takenFrom z s) ⌝ }
-{
-    let r = run(w);
-    if 31 < r {
-        return Taken::Long;
-    }
-    Taken::Quotient {
-        value: (((w << r) + 0x8000_0000_0000_0000) >> (63 - r)) as u32,
-        characters: (2 * r + 1) as usize,
-    }
-}
-
 // The word due at a place of a block's string, extended by zeros. A turned word is read as a word of the turned bits;
 // where the window is all zeros, it is long or, if only zeros are left, the end.
 pub fn take(b: Block, place: Place) -> Taken
@@ -152,15 +100,15 @@ pub fn take(b: Block, place: Place) -> Taken
 {
     let used = place.used;
     let due = place.due;
-    let w = window(b, used);
+    let w = words::window(b, used);
     match due {
-        Kind::Word => word(w),
+        Kind::Word => words::word(w),
         Kind::Turned => {
             if w != 0 {
-                return word(0xffff_ffff_ffff_ffff - w);
+                return words::word(0xffff_ffff_ffff_ffff - w);
             }
             if used < 32 {
-                if window(b, used + 64) != 0 {
+                if words::window(b, used + 64) != 0 {
                     return Taken::Long;
                 }
             }

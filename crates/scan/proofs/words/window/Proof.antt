@@ -6,8 +6,8 @@ use lib.ListN.{drop}
 use Rattle.bits.specs.Sums.{first-lt}
 use Rattle.blocks.specs.Blocks.{bitsOfBlock}
 use Rattle.scan.specs.Windows.{window-high, window-low, window-none}
-use Rattle.scan.proofs.window.Statement.{statement}
-use Rattle.scan.proofs.window.Tie as tie
+use Rattle.scan.proofs.words.window.Statement.{statement}
+use Rattle.scan.proofs.words.window.Tie as tie
 
 returns-high : tie.Need-returns
 returns-high c =

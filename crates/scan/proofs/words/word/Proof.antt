@@ -4,8 +4,8 @@ use native.Mathlib.Omega.{arith}
 use borrow.Author.Needs.{needs}
 use Rattle.scan.specs.Runs.{shifted-small, read-fits}
 use Rattle.scan.specs.Begun.{taken-long, taken-word}
-use Rattle.scan.proofs.word.Statement.{statement}
-use Rattle.scan.proofs.word.Tie as tie
+use Rattle.scan.proofs.words.word.Statement.{statement}
+use Rattle.scan.proofs.words.word.Tie as tie
 
 returns-long : tie.Need-returns
 returns-long c = λ z s h e. taken-long z s h e (c .before .run .ensures) (omega arith)

@@ -5,8 +5,8 @@ use Prim.Native.Nat.{_+_, _*_, _-_, _^_, _≤_}
 use native.Mathlib.Omega.{arith}
 use lib.Pow.{pow-add, pow-pos}
 use Rattle.scan.specs.Runs.{next-one}
-use Rattle.scan.proofs.run.Statement.{statement}
-use Rattle.scan.proofs.run.Tie as tie
+use Rattle.scan.proofs.words.run.Statement.{statement}
+use Rattle.scan.proofs.words.run.Tie as tie
 
 abbrev Inv-loop : tie.InvT-loop
 Inv-loop w left₀ n₀ left n = (left + 2 ^ 64 * 2 ^ n ≡ w * 2 ^ n + 2 ^ 64) × (n ≤ 32)
