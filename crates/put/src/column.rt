@@ -4,6 +4,7 @@ ghost use Prim.Native.Nat.{_≤_};
 ghost use Rattle.bits.specs.Texts.{inFront};
 ghost use Rattle.put.specs.Bytes.{bytesIn};
 
+// Eight bytes at the front of out.
 pub fn put_high(out: &mut [u8], word: u64)
     requires { do ⌜ 8 ≤ (← ⟦out.len()⟧) ⌝ }
     ensures { λ r. ⌜ now (out .exit) ≡ inFront (bytesIn 8 word) (now (out .entry)) ⌝ }
@@ -18,6 +19,7 @@ pub fn put_high(out: &mut [u8], word: u64)
     out[7] = (word % 256) as u8;
 }
 
+// Four bytes at the front of out.
 pub fn put_low(out: &mut [u8], word: u32)
     requires { do ⌜ 4 ≤ (← ⟦out.len()⟧) ⌝ }
     ensures { λ r. ⌜ now (out .exit) ≡ inFront (bytesIn 4 word) (now (out .entry)) ⌝ }

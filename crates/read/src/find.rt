@@ -12,6 +12,7 @@ ghost use Rattle.blocks.specs.Blocks.{bitsOfBlock};
 ghost use Rattle.fractions.specs.Convergents.{convergent};
 ghost use Rattle.read.specs.Finding.{ratioIn, limited, bitsIn, Ready, Finds, foundOf};
 
+// used: the characters before the quotient that left the range.
 pub enum Found {
     Ratio { num: u32, den: u32 },
     Over { used: usize },
@@ -32,7 +33,8 @@ fn next(a: u32, u: u64, v: u64) -> u64
     den * 4294967296 + num
 }
 
-// A turned word is read only below 96 characters used, and a word has at most 64: so neither count grows on.
+// Where a word is due. A turned word is read only below 96 characters used, and a word has at most 64: so neither count
+// grows on.
 fn find_word(high: u64, low: u32, used: usize, u: u64, v: u64) -> u64
     requires { ⌜ Ready 159 used u ⌝ }
     ensures { λ r. ⌜ Finds (bitsIn high low) used false (ratioIn u) (ratioIn v) r ⌝ }
@@ -56,6 +58,7 @@ fn find_word(high: u64, low: u32, used: usize, u: u64, v: u64) -> u64
     }
 }
 
+// Where a turned word is due.
 fn find_turned(high: u64, low: u32, used: usize, u: u64, v: u64) -> u64
     requires { ⌜ Ready 223 used u ⌝ }
     ensures { λ r. ⌜ Finds (bitsIn high low) used true (ratioIn u) (ratioIn v) r ⌝ }
@@ -79,6 +82,8 @@ fn find_turned(high: u64, low: u32, used: usize, u: u64, v: u64) -> u64
     }
 }
 
+// The value of a block's string, or which quotient left the range. The first character gives the first convergents: 1/0
+// and 0/1 before a word, and after the quotient 0 those before a turned word, 0/1 and 1/0.
 pub fn find(b: Block) -> Found
     ensures { λ r. ⌜ r ≡ foundOf (bitsOfBlock b) ⌝ }
 {
