@@ -1,5 +1,5 @@
 -- What changing between column and text answers, by what judging, loading and putting out gave.
-use mathlib.Core.Path.{_≡_, _∙_}
+use mathlib.Core.Path.{_≡_, refl, _∙_}
 use mathlib.Core.Bool.{false, cond}
 use mathlib.Core.List.{List, [], _∷_}
 use Prim.Native.Nat.{ℕ, _≤_}
@@ -17,9 +17,9 @@ use Rattle.blocks.specs.declared.Block.{Block}
 use Rattle.load.specs.Loading.{loaded}
 use Rattle.load.specs.Callers.{told-wrong, told-bits}
 use Rattle.load.specs.declared.Loaded.the-variants.{Bits, WrongColumn}
-use Rattle.outcomes.specs.Outcomes.{gives, refuses, called}
+use Rattle.outcomes.specs.Outcomes.{leaves, refuses, called}
 use Rattle.outcomes.specs.Refusals.{shortBuffer}
-use Rattle.outcomes.specs.Buffers.{Put, called-short, called-done}
+use Rattle.outcomes.specs.Buffers.{counted, put-called}
 use Rattle.outcomes.specs.Packing.{columnToText, textToColumn}
 use Rattle.put.specs.Putting.{textPut, columnPut}
 use Rattle.scan.specs.Judging.{judgement, numberOfFault}
@@ -54,20 +54,12 @@ module _ (c m : List ℕ) where
         closed-equal (bitsOfBlock b) (bitsOfBytes c) (omega (arith, block-length b)) (omega (arith, size))
         (rw (told .1 .0) (block-whole (bitsOfBytes c) (omega (arith, size))))
 
-    put-key : Put (ltb (length m) 96) m after (length key) r l
+    pub text-told : leaves (counted 1 (λ n. n ∷ []) r) l ≡ columnToText c m
     unfolding textPut
-    put-key = rw held at put
-
-    pub text-short : r ≡ 0 → refuses 2 1 l ≡ columnToText c m
-    text-short z =
-        called-short 96 m after (length key ∷ []) (length key) r l put-key
-        (closed-some (bitsOfBytes c) (omega (arith, size))) z
+    text-told =
+        put-called 96 1 (λ n. n ∷ []) m after (length key) r l (closed-some (bitsOfBytes c) (omega (arith, size))) refl
+        (rw held at put)
         ∙ told .1 .1
-
-    pub text-done : (r ≡ 0 → ⊥) → gives (r ∷ []) l ≡ columnToText c m
-    text-done z =
-        let (count, whole) = called-done 96 m after (length key ∷ []) (length key) r l put-key z in
-        (λ i. gives (count i ∷ []) l) ∙ whole ∙ told .1 .1
 
 module _ (k m : List ℕ) where
   abbrev stored : List ℕ
@@ -83,20 +75,13 @@ module _ (k m : List ℕ) where
     unfolding textToColumn
     judged = told-key k (shortBuffer 12 m ∷ []) [] m stored e
 
-    put-column : Put (ltb (length m) 12) m stored (length (strings.closed (bitsOfBlock b))) r l
+    pub column-told : leaves (counted 0 (λ n. []) r) l ≡ textToColumn k m
     unfolding columnPut
-    put-column =
+    column-told =
+        let n = length (strings.closed (bitsOfBlock b)) in
         let same : strings.Same false (bitsOfBlock b) (bitsOfText k) =
         rw loads (block-whole (bitsOfText k) (rw length-map (judged .0))) in
         let bytes = bytes-same 12 (bitsOfBlock b) (bitsOfText k) same in
-        put ∙ λ i. cond (ltb (length m) 12) (0, m) (length (strings.closed (bitsOfBlock b)), inFront (bytes i) m)
-
-    pub column-short : r ≡ 0 → refuses 2 0 l ≡ textToColumn k m
-    column-short z =
-        called-short 12 m stored [] (length (strings.closed (bitsOfBlock b))) r l put-column
-        (closed-some (bitsOfBlock b) (omega (arith, block-length b))) z
+        put-called 12 0 (λ n. []) m stored n r l (closed-some (bitsOfBlock b) (omega (arith, block-length b))) refl
+        (put ∙ λ i. cond (ltb (length m) 12) (0, m) (n, inFront (bytes i) m))
         ∙ judged .1
-
-    pub column-done : (r ≡ 0 → ⊥) → gives [] l ≡ textToColumn k m
-    column-done z =
-        called-done 12 m stored [] (length (strings.closed (bitsOfBlock b))) r l put-column z .1 ∙ judged .1

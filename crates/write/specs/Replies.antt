@@ -1,5 +1,5 @@
 -- What writing answers, by what spelling and putting out gave.
-use mathlib.Core.Path.{_≡_, _∙_}
+use mathlib.Core.Path.{_≡_, refl, _∙_}
 use mathlib.Core.Bool.{false, cond}
 use mathlib.Core.List.{List, [], _∷_}
 use Prim.Native.Nat.{ℕ, _^_, _≤_, _<_}
@@ -17,9 +17,9 @@ use Rattle.families.specs.Published.{words1983}
 use Rattle.keys.specs.Keys.{Canonical, keyOf, columnOf}
 use Rattle.keys.specs.Back.{not-canonical, closed-canonical, key-canonical}
 use Rattle.keys.specs.Size.{key-size}
-use Rattle.outcomes.specs.Outcomes.{Outcome, gives, refuses, called}
+use Rattle.outcomes.specs.Outcomes.{Answer, leaves, refuses, called}
 use Rattle.outcomes.specs.Refusals.{zeroDenominator, shortBuffer}
-use Rattle.outcomes.specs.Buffers.{Put, called-short, called-done}
+use Rattle.outcomes.specs.Buffers.{Put, counted, put-called}
 use Rattle.outcomes.specs.Writing.{counts, writeText, writeColumn}
 use Rattle.put.specs.Putting.{textPut, columnPut}
 use Rattle.spell.specs.Callers.{Spells, told-zero, told-key}
@@ -49,55 +49,31 @@ module _ (p q : ℕ) (small : p < 2 ^ 32) (low : q < 2 ^ 32) (b : Block) (n d : 
       closed-equal (bitsOfBlock b) key (omega (arith, block-length b)) (some key canonical) held
       ∙ closed-canonical key canonical
 
-  -- t is put out into m, which wants size bytes
-  module _ (size : ℕ) (t m : List ℕ) (r : ℕ) (l : List ℕ)
-      (put : Put (ltb (length m) size) m (inFront t m) (length key) r l) where
-    abbrev outcome : Outcome
-    outcome = called (zeroDenominator q ∷ shortBuffer size m ∷ []) (counts p q) m (inFront t m)
+  -- the answer by the count of characters
+  abbrev answer : ℕ → Answer
+  answer r = counted 2 (λ c. c ∷ n ∷ []) r
 
-    rest : called (shortBuffer size m ∷ []) (counts p q) m (inFront t m) ≡ outcome
-    rest = told-key p q (shortBuffer size m ∷ []) (counts p q) m (inFront t m) b n d e .1
+  -- t was put out into m, which wants size bytes
+  told : (size : ℕ) (t m : List ℕ) (r : ℕ) (l : List ℕ)
+      → Put (ltb (length m) size) m (inFront t m) (length key) r l
+      → leaves (answer r) l ≡ called (zeroDenominator q ∷ shortBuffer size m ∷ []) (counts p q) m (inFront t m)
+  told size t m r l put =
+      put-called size 2 (λ c. c ∷ n ∷ []) m (inFront t m) (length key) r l (some key canonical) refl put
+      ∙ (λ i. called (shortBuffer size m ∷ []) (length key ∷ spells .quotients i ∷ []) m (inFront t m))
+      ∙ told-key p q (shortBuffer size m ∷ []) (counts p q) m (inFront t m) b n d e .1
 
-    short : r ≡ 0 → refuses 2 2 l ≡ outcome
-    short z = called-short size m (inFront t m) (counts p q) (length key) r l put (some key canonical) z ∙ rest
+  pub text-told : (m : List ℕ) (r : ℕ) (l : List ℕ) → _≡_ {A = ℕ × List ℕ} (r, l) (textPut (bitsOfBlock b) m)
+      → leaves (answer r) l ≡ writeText p q m
+  unfolding textPut writeText
+  text-told m r l put = told 96 (textOf key) m r l (rw key-held at put)
 
-    done : (r ≡ 0 → ⊥) → gives (r ∷ n ∷ []) l ≡ outcome
-    done z =
-        let (count, whole) = called-done size m (inFront t m) (counts p q) (length key) r l put z in
-        (λ i. gives (count i ∷ spells .quotients i ∷ []) l) ∙ whole ∙ rest
-
-  module _ (m : List ℕ) (r : ℕ) (l : List ℕ) where
-    abbrev TextPut : Type 0
-    TextPut = _≡_ {A = ℕ × List ℕ} (r, l) (textPut (bitsOfBlock b) m)
-
-    text : TextPut → Put (ltb (length m) 96) m (inFront (textOf key) m) (length key) r l
-    unfolding textPut
-    text put = rw key-held at put
-
-    pub text-short : TextPut → r ≡ 0 → refuses 2 2 l ≡ writeText p q m
-    unfolding writeText
-    text-short put = short 96 (textOf key) m r l (text put)
-
-    pub text-done : TextPut → (r ≡ 0 → ⊥) → gives (r ∷ n ∷ []) l ≡ writeText p q m
-    unfolding writeText
-    text-done put = done 96 (textOf key) m r l (text put)
-
-    abbrev ColumnPut : Type 0
-    ColumnPut = _≡_ {A = ℕ × List ℕ} (r, l) (columnPut (bitsOfBlock b) m)
-
-    column : ColumnPut → Put (ltb (length m) 12) m (inFront (columnOf key) m) (length key) r l
-    unfolding columnPut
-    column put =
-        let bytes = bytes-same 12 (bitsOfBlock b) key held in
-        put ∙ λ i. cond (ltb (length m) 12) (0, m) (length (key-held i), inFront (bytes i) m)
-
-    pub column-short : ColumnPut → r ≡ 0 → refuses 2 2 l ≡ writeColumn p q m
-    unfolding writeColumn
-    column-short put = short 12 (columnOf key) m r l (column put)
-
-    pub column-done : ColumnPut → (r ≡ 0 → ⊥) → gives (r ∷ n ∷ []) l ≡ writeColumn p q m
-    unfolding writeColumn
-    column-done put = done 12 (columnOf key) m r l (column put)
+  pub column-told : (m : List ℕ) (r : ℕ) (l : List ℕ) → _≡_ {A = ℕ × List ℕ} (r, l) (columnPut (bitsOfBlock b) m)
+      → leaves (answer r) l ≡ writeColumn p q m
+  unfolding columnPut writeColumn
+  column-told m r l put =
+      let bytes = bytes-same 12 (bitsOfBlock b) key held in
+      told 12 (columnOf key) m r l
+      (put ∙ λ i. cond (ltb (length m) 12) (0, m) (length (key-held i), inFront (bytes i) m))
 
 pub text-zero : (p q : ℕ) (m : List ℕ) → ZeroDenominator ≡ spelling p q → refuses 1 2 m ≡ writeText p q m
 unfolding writeText

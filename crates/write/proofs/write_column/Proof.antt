@@ -1,35 +1,21 @@
 -- `write::write_column` meets its contract. Each way is what spelling and putting out gave, by `specs/Replies.antt`.
-use mathlib.Core.Path.{sym, _∙_}
-use Prim.Native.Nat.{_<_, _^_}
+use mathlib.Core.Path.{sym, _∙_, ap}
 use borrow.Author.Needs.{needs}
-use Rattle.write.specs.Replies.{column-zero, column-short, column-done}
+use Rattle.outcomes.specs.Outcomes.{Answer, leaves}
+use Rattle.write.specs.Replies.{column-zero, column-told}
 use Rattle.write.proofs.write_column.Statement.{statement}
 use Rattle.write.proofs.write_column.Tie as tie
 
-small : (c : tie.Start) → c .args .p < 2 ^ 32
-small c = search needs
-
-low : (c : tie.Start) → c .args .q < 2 ^ 32
-low c = search needs
-
-returns-zero : tie.Need-returns-2
+returns-zero : tie.Need-returns
 returns-zero c = column-zero _ _ _ (sym (c .enum-told .given .1) ∙ c .before .before .spell .ensures)
 
-returns-short : tie.Need-returns
-returns-short c =
-    let p = c .before .before .before in
-    let x = p .before .before .before in
-    let start = x .before .before .before .before in
-    column-short _ _ (small start) (low start) _ _ _
-    (sym (x .block .given .1) ∙ x .before .before .spell .ensures) _ _ _ (p .put-column .ensures) (c .if1 .taken)
-
-returns-key : tie.Need-returns-3
+returns-key : tie.Need-returns-2
 returns-key c =
-    let p = c .before .before .before in
-    let x = p .before .before .before in
-    let start = x .before .before .before .before in
-    column-done _ _ (small start) (low start) _ _ _
-    (sym (x .block .given .1) ∙ x .before .before .spell .ensures) _ _ _ (p .put-column .ensures) (c .if1 .left)
+    let put = c .before .before .before in
+    let x = put .before .before .before in
+    ap (λ (a : Answer). leaves a (put .put-column .last .1 .0)) (c .answered .ensures)
+    ∙ column-told _ _ (search needs) (search needs) _ _ _
+    (sym (x .block .given .1) ∙ x .before .before .spell .ensures) _ _ _ (put .put-column .ensures)
 
 pub write-column-spec : {M : Type 1} → statement M
 write-column-spec =
@@ -39,8 +25,7 @@ write-column-spec =
     (λ c. search needs)
     (λ c. search needs)
     (λ c κs. search needs)
-    (λ c. search needs)
-    returns-short
+    (λ c κs. search needs)
     returns-zero
     (λ c. search needs)
     returns-key)
