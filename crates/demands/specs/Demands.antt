@@ -18,7 +18,7 @@ use Rattle.outcomes.specs.Refusals.{zeroDenominator, shortBuffer, keyRefusals, 
 use Rattle.outcomes.specs.Writing.{writeText, writeColumn}
 use Rattle.outcomes.specs.Reading.{terms, readText, readColumn, reduce}
 use Rattle.outcomes.specs.Packing.{columnToText, textToColumn}
-use Rattle.demands.specs.Keys.{Ordered}
+use Rattle.demands.specs.Ordered.{Ordered}
 
 -- A call's number is the first in its order that applies, 0 for none. A refused call leaves what it was lent as it was,
 -- and all its values are zero.

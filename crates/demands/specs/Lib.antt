@@ -1,4 +1,4 @@
-pub mod Keys
+pub mod Ordered
 pub mod Demands
 pub mod Met
 pub mod Unique

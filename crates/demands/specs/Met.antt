@@ -26,7 +26,7 @@ use Rattle.outcomes.specs.RoundTrips.{text-written, column-written, text-back, 
 use Rattle.outcomes.specs.Rewriting.{text-lowest, column-lowest, text-again, column-again}
 use Rattle.outcomes.specs.Rewriting.{text-packed, packed-back, column-unpacked, unpacked-back}
 use Rattle.demands.specs.Demands.{Refuses, Checked, Written, Again, Demands}
-use Rattle.demands.specs.Keys.{Ordered}
+use Rattle.demands.specs.Ordered.{Ordered}
 
 -- every call is `called` with its order
 refuses-first : (order : List Refusal) (values before after : List ℕ)

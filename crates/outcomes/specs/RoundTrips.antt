@@ -58,7 +58,7 @@ pub judged-first : (k : List ℕ) (more : List Refusal) → Clear (keyRefusals k
     → Clear (keyRefusals k []) × Clear more
 judged-first k more (a, (b, (c, (d, r)))) = ((a, (b, (c, (d, tt)))), r)
 
-pub read-text : (k : List ℕ) (v : Ratio) → Clear (keyRefusals k []) → valueOfKey words1983 (bitsOfText k) ≡ v
+read-text : (k : List ℕ) (v : Ratio) → Clear (keyRefusals k []) → valueOfKey words1983 (bitsOfText k) ≡ v
     → v .num ≤ limit → v .den ≤ limit → readText k ≡ gives (terms v) []
 unfolding readText
 read-text k v c e n d =
@@ -67,7 +67,7 @@ read-text k v c e n d =
     (judged-more k (outOfRange r ∷ []) c (in-range r (rw e n) (rw e d)))
     ∙ ap (λ (x : Ratio). gives (terms x) []) e
 
-pub read-column : (c : List ℕ) (v : Ratio) → length c ≡ 12 → valueOfKey words1983 (bitsOfBytes c) ≡ v
+read-column : (c : List ℕ) (v : Ratio) → length c ≡ 12 → valueOfKey words1983 (bitsOfBytes c) ≡ v
     → v .num ≤ limit → v .den ≤ limit → readColumn c ≡ gives (terms v) []
 unfolding readColumn
 read-column c v size e n d =
