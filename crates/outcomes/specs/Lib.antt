@@ -3,6 +3,7 @@ pub mod Refusals
 pub mod Writing
 pub mod Reading
 pub mod Packing
+pub mod AsPrinted
 pub mod Laws
 pub mod Buffers
 pub mod TextKeys
