@@ -1,13 +1,14 @@
 -- Strings to bytes and back.
 use mathlib.Core.Path.{_≡_, refl, sym, _∙_, ap}
 use mathlib.Core.Bool.{false}
-use mathlib.Core.List.{List, [], _∷_, _++_}
-use Prim.Native.Nat.{ℕ, zero, suc, _+_, _*_, _<_}
+use mathlib.Core.List.{List, [], _∷_}
+use Prim.Native.Nat.{ℕ, zero, suc, _+_, _*_}
 use native.Mathlib.Omega.{arith}
-use lib.ListN.{length, drop, getD, length-append}
+use lib.ListN.{length, drop, length-append}
 use lib.Seq.{drop-at}
 use Rattle.bits.specs.Strings.{Bits, Same}
 use Rattle.bits.specs.Binary.{numberOf, firstBits, bytesOf, digitsIn, bitsOfBytes}
+use Rattle.bits.specs.Texts.{Bytes}
 use Rattle.bits.specs.Pieces.{same-rest, first-add, first-append, first-same}
 use Rattle.bits.specs.Pieces.{length-digits, number-of-digits, digits-first}
 
@@ -26,6 +27,13 @@ pub bits-length : (l : List ℕ) → length (bitsOfBytes l) ≡ 8 * length l
 bits-length [] = refl
 bits-length (c ∷ l) = rw (length-append, length-digits) (omega (arith, bits-length l))
 
+-- the first byte's bits come first, and then those of the others
+pub byte-bits : (c : ℕ) (l : List ℕ) → firstBits false 8 (bitsOfBytes (c ∷ l)) ≡ digitsIn 8 c
+byte-bits c l = rw length-digits at (first-append false (digitsIn 8 c) (bitsOfBytes l))
+
+pub byte-rest : (c : ℕ) (l : List ℕ) → drop 8 (bitsOfBytes (c ∷ l)) ≡ bitsOfBytes l
+byte-rest c l = drop-at (digitsIn 8 c) (bitsOfBytes l) 8 (length-digits 8 c)
+
 -- the bits of the bytes of a string are the string's first
 pub bits-of-bytes : (n : ℕ) (s : Bits) → bitsOfBytes (bytesOf n s) ≡ firstBits false (8 * n) s
 bits-of-bytes zero s = refl
@@ -35,12 +43,8 @@ bits-of-bytes (suc n) s =
     (sym (first-add false 8 (8 * n) s) ∙ ap (λ (m : ℕ). firstBits false m s) size)
 
 -- the bytes of the bits of bytes are those bytes
-pub bytes-of-bits : (l : List ℕ) → ((i : ℕ) → getD l i 0 < 256) → bytesOf (length l) (bitsOfBytes l) ≡ l
+pub bytes-of-bits : (l : List ℕ) → Bytes l → bytesOf (length l) (bitsOfBytes l) ≡ l
 bytes-of-bits [] h = refl
 bytes-of-bits (c ∷ l) h =
-    let d = digitsIn 8 c in
-    let first : firstBits false 8 (d ++ bitsOfBytes l) ≡ d =
-    rw length-digits at (first-append false d (bitsOfBytes l)) in
-    let head : numberOf (firstBits false 8 (d ++ bitsOfBytes l)) ≡ c = rw first (number-of-digits 8 c (h 0)) in
-    let rest : drop 8 (d ++ bitsOfBytes l) ≡ bitsOfBytes l = drop-at d (bitsOfBytes l) 8 (length-digits 8 c) in
-    λ i. head i ∷ (ap (bytesOf (length l)) rest ∙ bytes-of-bits l (λ j. h (suc j))) i
+    let first : numberOf (firstBits false 8 (bitsOfBytes (c ∷ l))) ≡ c = rw byte-bits (number-of-digits 8 c (h 0)) in
+    λ i. first i ∷ (ap (bytesOf (length l)) (byte-rest c l) ∙ bytes-of-bits l (λ j. h (suc j))) i

@@ -1,7 +1,7 @@
 -- Pieces of a string that goes on with z, and the numbers of pieces.
 use mathlib.Core.Path.{_≡_, refl, sym, _∙_, ap}
 use mathlib.Core.Bool.{Bool, true, false}
-use mathlib.Core.List.{[], _∷_, _++_, append-nil}
+use mathlib.Core.List.{List, [], _∷_, _++_, map, append-nil}
 use Prim.Native.Nat.{ℕ, zero, suc, _+_, _*_, _/_, _%_, _^_, _≤_, _<_}
 use native.Mathlib.Nat.{pow-suc, mod-eq-of-lt, div-eq-of-lt, mod-one, mod-lt, zero-add, suc-add, add-mul-div-right}
 use native.Mathlib.Numerals.{one-add}
@@ -15,6 +15,12 @@ use Rattle.bits.specs.Strings.{Bits, Same}
 use Rattle.bits.specs.Binary.{digitOf, numberOf, firstBits, digitsIn}
 use Rattle.bits.specs.Order.{same-append}
 use Rattle.bits.specs.Numbers.{number-from, number-lt}
+
+-- what is left out is left out of a map too
+pub drop-map : {A B : Type 0} (f : A → B) (n : ℕ) (l : List A) → drop n (map f l) ≡ map f (drop n l)
+drop-map f zero l = refl
+drop-map f (suc n) [] = refl
+drop-map f (suc n) (a ∷ l) = drop-map f n l
 
 pub same-first : (z : Bool) (n : ℕ) (s : Bits) → Same z s (firstBits z n s ++ drop n s)
 same-first z zero s i = refl

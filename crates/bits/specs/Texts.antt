@@ -1,9 +1,9 @@
 -- Strings of bits as the characters 0 and 1, the bytes 48 and 49, and in lent memory.
 use mathlib.Core.Bool.{Bool, cond}
 use mathlib.Core.List.{List, _++_, map}
-use Prim.Native.Nat.{ℕ}
+use Prim.Native.Nat.{ℕ, _<_}
 use lib.Dec.{eqb}
-use lib.ListN.{length, drop}
+use lib.ListN.{length, getD, drop}
 use Rattle.bits.specs.Strings.{Bits}
 
 abbrev pub charOf : Bool → ℕ
@@ -19,3 +19,7 @@ bitsOfText k = map (λ c. eqb c 49) k
 -- memory after t was written at its front
 abbrev pub inFront : List ℕ → List ℕ → List ℕ
 inFront t m = t ++ drop (length t) m
+
+-- memory is made of bytes
+abbrev pub Bytes : List ℕ → Type 0
+Bytes m = (i : ℕ) → getD m i 0 < 256

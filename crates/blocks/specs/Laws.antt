@@ -1,5 +1,5 @@
 -- Strings to blocks and back.
-use mathlib.Core.Path.{_≡_, sym, _∙_, ap}
+use mathlib.Core.Path.{_≡_, sym}
 use mathlib.Core.Bool.{false}
 use Prim.Native.Nat.{ℕ, _^_, _≤_, _<_}
 use native.Mathlib.Omega.{arith}
@@ -8,7 +8,7 @@ use lib.Seq.{take-at, drop-at}
 use Rattle.bits.specs.Strings.{Bits, Same}
 use Rattle.bits.specs.Binary.{numberOf, firstBits, digitsIn}
 use Rattle.bits.specs.Pieces.{first-add, first-take, first-same, same-rest, same-piece}
-use Rattle.bits.specs.Pieces.{length-digits, number-of-digits, first-digits, digits-first}
+use Rattle.bits.specs.Pieces.{length-digits, number-of-digits, digits-first}
 use Rattle.blocks.specs.declared.Block.{Block}
 use Rattle.blocks.specs.Blocks.{bitsOfBlock, blockOf}
 
@@ -42,12 +42,6 @@ block-made s high low = λ i. record { high = high i; low = low i }
 pub block-bits : (s : Bits) → bitsOfBlock (blockOf s) ≡ firstBits false 96 s
 unfolding bitsOfBlock blockOf
 block-bits s = rw (digits-first false 64 s, digits-first false 32 (drop 64 s)) (sym (first-add false 64 32 s))
-
-pub bits-block : (b : Block) → b .high < 2 ^ 64 → b .low < 2 ^ 32 → blockOf (bitsOfBlock b) ≡ b
-bits-block b h l =
-    let low : firstBits false 32 (drop 64 (bitsOfBlock b)) ≡ drop 64 (bitsOfBlock b) =
-    rw block-rest (first-digits false 32 (b .low)) in
-    sym (block-made (bitsOfBlock b) (sym (block-high b h)) (sym (ap numberOf low ∙ block-low b l)))
 
 -- strings that are one infinite string have one block
 pub block-same : (s t : Bits) → Same false s t → blockOf s ≡ blockOf t

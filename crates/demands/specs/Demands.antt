@@ -7,13 +7,13 @@ use Prim.Native.Nat.{ℕ, _*_, _-_, _^_, _≤_, _<_}
 use lib.ListN.{length, replicate}
 use Rattle.bits.specs.Strings.{Bits, _≺_, closed}
 use Rattle.bits.specs.Binary.{bitsOfBytes}
-use Rattle.bits.specs.Texts.{textOf, bitsOfText, inFront}
+use Rattle.bits.specs.Texts.{textOf, bitsOfText, inFront, Bytes}
 use Rattle.families.specs.Families.{Family}
 use Rattle.families.specs.Published.{words1983}
 use Rattle.fractions.specs.Fractions.{_over_, lowestTerms, formOf}
 use Rattle.keys.specs.Keys.{keyOf, countOf, Canonical, valueOfKey, cutTo, columnOf}
 use Rattle.keys.specs.Size.{limit}
-use Rattle.outcomes.specs.Outcomes.{Outcome, Refusal, Bytes, gives, firstOf}
+use Rattle.outcomes.specs.Outcomes.{Outcome, Refusal, gives, firstOf}
 use Rattle.outcomes.specs.Refusals.{zeroDenominator, shortBuffer, keyRefusals, outOfRange, wrongColumn}
 use Rattle.outcomes.specs.Writing.{writeText, writeColumn}
 use Rattle.outcomes.specs.Reading.{terms, readText, readColumn, reduce}
@@ -26,7 +26,7 @@ pub record Refuses (o : Outcome) (order : List Refusal) (lent : List ℕ) : Type
   pub number : o .refusal ≡ firstOf order
   pub kept : (o .refusal ≡ 0 → ⊥) → (o .memory ≡ lent) × (o .values ≡ replicate (length (o .values)) 0)
 
--- Demand 1. Every call checks its input itself: for each, the order of its refusals.
+-- Demand 1. Every call ends, as each proved function does, and checks its input itself: here is each order of refusals.
 pub record Checked : Type 0 where
   pub writing-text : (p q : ℕ) (m : List ℕ)
       → Refuses (writeText p q m) (zeroDenominator q ∷ shortBuffer 96 m ∷ []) m

@@ -5,6 +5,8 @@ use mathlib.Core.Bool.{Bool, true, false, false≢true}
 use mathlib.Core.Logic.{inl, inr}
 use mathlib.Core.List.{List, [], _∷_, nil≢cons}
 use Prim.Native.Nat.{ℕ, zero, suc, _≤_}
+use native.Mathlib.Omega.{arith}
+use lib.ListN.{length}
 use Rattle.bits.specs.Strings.{Bits, turn, Same, trimmed, closed}
 use Rattle.bits.specs.Trim.{trimmed-same, trimmed-ended, Tidy, tidy-trimmed, closed-same}
 use Rattle.families.specs.Families.{Family}
@@ -32,6 +34,10 @@ pub closed-to : (b : Bool) (s k : Bits) → Canonical k → Same false k (b ∷ 
 closed-to b s [] c e = absurd (not-canonical c)
 closed-to b s (d ∷ t) c e =
     (λ i. sym (e 0) i ∷ trimmed-same s t (λ j. sym (e (suc j))) i) ∙ closed-canonical (d ∷ t) c
+
+pub canonical-some : (k : Bits) → Canonical k → 1 ≤ length k
+canonical-some [] c = absurd (not-canonical c)
+canonical-some (b ∷ k) c = omega arith
 
 -- canonical keys that are the same are equal
 pub canonical-same : (j k : Bits) → Canonical j → Canonical k → Same false j k → j ≡ k

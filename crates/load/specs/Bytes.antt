@@ -1,14 +1,16 @@
 -- A column's bytes, four at a time, as parts of the string of its bits, and its block of three such parts.
 use mathlib.Core.Path.{_≡_, refl, sym, ap, _∙_}
 use mathlib.Core.Bool.{false}
-use mathlib.Core.List.{List, [], _∷_, _++_}
+use mathlib.Core.List.{List, [], _∷_}
 use Prim.Native.Nat.{ℕ, zero, suc, _+_, _*_, _-_, _^_, _≤_, _<_}
 use native.Mathlib.Omega.{arith}
 use borrow.Author.Tests.{eq-eqb, ne-eqb}
 use lib.ListN.{length, getD, take, drop}
-use lib.Seq.{drop-at, drop-nil, drop-append-add}
+use lib.Seq.{drop-nil, drop-append-add}
 use Rattle.bits.specs.Binary.{numberOf, firstBits, digitsIn, bitsOfBytes}
-use Rattle.bits.specs.Pieces.{first-append, length-digits, number-of-digits}
+use Rattle.bits.specs.Texts.{Bytes}
+use Rattle.bits.specs.Pieces.{length-digits, number-of-digits}
+use Rattle.bits.specs.Columns.{byte-bits, byte-rest}
 use Rattle.bits.specs.Sums.{number-first}
 use Rattle.bits.specs.Memory.{lent-part}
 use Rattle.blocks.specs.Laws.{block-made}
@@ -24,12 +26,9 @@ byte-first : (n a : ℕ) (l : List ℕ) → a < 256
     → numberOf (firstBits false (8 + n) (bitsOfBytes (a ∷ l)))
     ≡ a * 2 ^ n + numberOf (firstBits false n (bitsOfBytes l))
 byte-first n a l h =
-    let front : firstBits false 8 (digitsIn 8 a ++ bitsOfBytes l) ≡ digitsIn 8 a =
-    rw length-digits at (first-append false (digitsIn 8 a) (bitsOfBytes l)) in
-    number-first false 8 n (bitsOfBytes (a ∷ l))
-    ∙ rw (front, number-of-digits 8 a h, drop-at (digitsIn 8 a) (bitsOfBytes l) 8 (length-digits 8 a))
+    number-first false 8 n (bitsOfBytes (a ∷ l)) ∙ rw (byte-bits a l, number-of-digits 8 a h, byte-rest a l)
 
-pub bytes-four : (c : List ℕ) → 4 ≤ length c → ((i : ℕ) → getD c i 0 < 256)
+pub bytes-four : (c : List ℕ) → 4 ≤ length c → Bytes c
     → getD c 0 0 * 16777216 + getD c 1 0 * 65536 + getD c 2 0 * 256 + getD c 3 0 ≡ fourBytes c
 bytes-four (a ∷ b ∷ d ∷ e ∷ l) h small =
     omega (

@@ -12,6 +12,7 @@ use lib.ListN.{length, getD, take, drop, length-map}
 use lib.Pow.{pow-mono}
 use lib.Seq.{take-suc, take-all, length-take-le}
 use Rattle.bits.specs.Strings.{Bits}
+use Rattle.bits.specs.Pieces.{drop-map}
 use Rattle.bits.specs.Binary.{digitOf, numberOf, firstBits}
 use Rattle.bits.specs.Texts.{bitsOfText}
 use Rattle.bits.specs.Memory.{lent-part}
@@ -27,11 +28,6 @@ topWord k = numberOf (firstBits false 64 (bitsOfText k))
 -- v is the number of the first i characters
 abbrev pub Gathered : List ℕ → ℕ → ℕ → Type 0
 Gathered k v i = v ≡ numberOf (bitsOfText (take i k))
-
-text-drop : (n : ℕ) (k : List ℕ) → bitsOfText (drop n k) ≡ drop n (bitsOfText k)
-text-drop zero k = refl
-text-drop (suc n) [] = refl
-text-drop (suc n) (c ∷ k) = text-drop n k
 
 -- a piece isn't changed by what is cut off after it
 text-take : (n : ℕ) (k : List ℕ) → firstBits false n (bitsOfText (take n k)) ≡ firstBits false n (bitsOfText k)
@@ -92,7 +88,7 @@ module _ (k : List ℕ) {x y : ℕ} (e : x ≡ topWord (take 64 k)) where
       → record { high = x; low = y / 4294967296 } ≡ blockOf (bitsOfText k)
   loaded-from l f g =
       block-made (bitsOfText k) (e ∙ rw text-take)
-      (rw f (first-shorter false 32 32 (bitsOfText l) ∙ rw (g, text-drop)))
+      (rw f (first-shorter false 32 32 (bitsOfText l) ∙ rw (g, drop-map)))
 
   pub rest-loaded : y ≡ topWord (take (length k - 64) (drop 64 k))
       → record { high = x; low = y / 4294967296 } ≡ blockOf (bitsOfText k)

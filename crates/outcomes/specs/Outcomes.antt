@@ -1,17 +1,13 @@
 -- The outcome of a call: its refusal's number, 0 for none, its values, and the lent memory as it leaves it.
 use mathlib.Core.Bool.{Bool, cond}
 use mathlib.Core.List.{List, [], _∷_}
-use Prim.Native.Nat.{ℕ, _<_}
-use lib.ListN.{length, getD, replicate}
+use Prim.Native.Nat.{ℕ}
+use lib.ListN.{length, replicate}
 
 pub record Outcome : Type 0 where
   pub refusal : ℕ
   pub values : List ℕ
   pub memory : List ℕ
-
--- lent memory is made of bytes
-abbrev pub Bytes : List ℕ → Type 0
-Bytes l = (i : ℕ) → getD l i 0 < 256
 
 -- an answer is the number and the values alone; a call leaves memory beside it
 pub record Answer : Type 0 where

@@ -8,7 +8,7 @@ use lib.Dec.{eqb, lit≤}
 use lib.ListN.{length, length-map}
 use Rattle.bits.specs.Strings.{Bits, closed}
 use Rattle.bits.specs.Binary.{bytesOf, bitsOfBytes}
-use Rattle.bits.specs.Texts.{charOf, textOf, bitsOfText, inFront}
+use Rattle.bits.specs.Texts.{charOf, textOf, bitsOfText, inFront, Bytes}
 use Rattle.bits.specs.Trim.{closed-same, closed-length, closed-equal}
 use Rattle.bits.specs.Columns.{bytes-same, bytes-length, bits-length, bytes-of-bits}
 use Rattle.families.specs.Published.{words1983}
@@ -16,7 +16,7 @@ use Rattle.fractions.specs.Fractions.{Ratio, _over_, lowestTerms, formOf}
 use Rattle.fractions.specs.Euclid.{same-ratio}
 use Rattle.keys.specs.Keys.{Canonical, keyOf, countOf, valueOfKey, columnOf}
 use Rattle.keys.specs.Back.{closed-canonical, canonical-closed, key-value, value-key, value-denominator, value-same}
-use Rattle.outcomes.specs.Outcomes.{Bytes, gives}
+use Rattle.outcomes.specs.Outcomes.{gives}
 use Rattle.outcomes.specs.Refusals.{shortBuffer, keyRefusals, outOfRange, wrongColumn}
 use Rattle.outcomes.specs.Laws.{Clear, clear-called, gives-clear}
 use Rattle.outcomes.specs.TextKeys.{bits-of-text, text-clear, clear-canonical}

@@ -13,7 +13,7 @@ use lib.ListN.{length, getD, length-map}
 use Rattle.bits.specs.Strings.{Bits}
 use Rattle.bits.specs.Texts.{charOf, textOf, bitsOfText}
 use Rattle.keys.specs.Keys.{Canonical}
-use Rattle.keys.specs.Back.{not-canonical}
+use Rattle.keys.specs.Back.{canonical-some}
 use Rattle.outcomes.specs.Refusals.{firstStrange, openKey, keyRefusals}
 use Rattle.outcomes.specs.Laws.{Clear}
 
@@ -71,7 +71,7 @@ closed-last s (inr (t, e)) = rw (e, last-one t, and-false)
 pub text-clear : (s : Bits) → Canonical s → length s ≤ 96 → Clear (keyRefusals (textOf s) [])
 text-clear s c h =
     let size : length (textOf s) ≡ length s = length-map s charOf in (
-      ne-eqb (length (textOf s)) 0 (λ e. some s c (sym size ∙ e)),
+      ne-eqb (length (textOf s)) 0 (λ e. omega (arith, canonical-some s c)),
       (
         le-ltb 96 (length (textOf s)) (omega arith),
         (
@@ -80,10 +80,6 @@ text-clear s c h =
         ),
       ),
     )
-  where
-    some : (s : Bits) → Canonical s → length s ≡ 0 → ⊥
-    some [] c e = not-canonical c
-    some (b ∷ s) c e = omega arith
 
 last-canonical : (s : Bits) → Clear (keyRefusals (textOf s) []) → Canonical s
 last-canonical [] (e, r) = absurd (true≢false e)

@@ -1,7 +1,7 @@
 -- The next convergent in one number: it is 0 where the convergent is over the limit, and gives its terms back where it
 -- isn't.
 use mathlib.Core.Path.{_≡_, refl, _∙_, ap}
-use mathlib.Core.Bool.{Bool, true, false, cond, _||_, true≢false}
+use mathlib.Core.Bool.{Bool, true, false, cond, _||_, true≢false, or-true}
 use mathlib.Core.Logic.{_⊎_, inl, inr}
 use Prim.Native.Nat.{ℕ, _+_, _*_, _^_, _≤_, _<_}
 use native.Mathlib.Nat.{mul-le-mul}
@@ -20,11 +20,7 @@ term-fits a x y h k l = omega (arith, mul-le-mul h k)
 -- a ratio is over the limit if one of its terms is
 pub term-over : (r : Ratio) → (limit < r .num) ⊎ (limit < r .den) → isOver r ≡ true
 term-over r (inl h) = rw (lt-ltb limit (r .num) h) refl
-term-over r (inr h) = rw (lt-ltb limit (r .den) h) (by-first (ltb limit (r .num)))
-  where
-    by-first : (b : Bool) → (b || true) ≡ true
-    by-first true = refl
-    by-first false = refl
+term-over r (inr h) = rw (lt-ltb limit (r .den) h) (or-true (ltb limit (r .num)))
 
 pub not-over : (r : Ratio) → r .num ≤ limit → r .den ≤ limit → isOver r ≡ false
 not-over r h k = rw (le-ltb limit (r .num) h, le-ltb limit (r .den) k) refl

@@ -3,7 +3,7 @@ use mathlib.Core.Path.{_≡_, refl, sym, _∙_, ap}
 use mathlib.Core.Bool.{Bool, true, false, not, cond, true≢false}
 use mathlib.Core.Logic.{inl, inr}
 use mathlib.Core.List.{[], _∷_}
-use Prim.Native.Nat.{ℕ, zero, suc, _+_, _/_, _%_, _^_, _≤_, _<_}
+use Prim.Native.Nat.{ℕ, _+_, _/_, _%_, _^_, _≤_, _<_}
 use native.Mathlib.Nat.{mul-le-mul, mul-le-mul-left, mul-le-mul-right}
 use native.Mathlib.Decide.{decLt}
 use native.Mathlib.Omega.{arith}
@@ -14,6 +14,7 @@ use lib.ListN.{length, drop, drop-of-length-le}
 use lib.Seq.{drop-drop}
 use Rattle.bits.specs.Strings.{Bits, turn}
 use Rattle.bits.specs.Order.{turn-turn}
+use Rattle.bits.specs.Pieces.{drop-map}
 use Rattle.families.specs.Families.{ended}
 use Rattle.families.specs.Words.{wordOf, firstNumber}
 use Rattle.families.specs.Complete.{word-complete}
@@ -29,14 +30,9 @@ use Rattle.scan.specs.declared.Taken.the-variants.{Quotient, Long, End}
 use Rattle.read.specs.Finding.{ratioIn, isOver, limited, foundFrom, quotientsAt, Finds}
 use Rattle.read.specs.Next.{term-over, not-over, none-over, some-within}
 
-turn-drop : (n : ℕ) (s : Bits) → drop n (turn s) ≡ turn (drop n s)
-turn-drop zero s = refl
-turn-drop (suc n) [] = refl
-turn-drop (suc n) (b ∷ s) = turn-drop n s
-
 -- what is left after one more word
 left-next : (s : Bits) (used n : ℕ) (z : Bool) → turn (drop n (leftAt s used z)) ≡ leftAt s (used + n) (not z)
-left-next s used n true = rw (turn-drop, turn-turn) (drop-drop n used s)
+left-next s used n true = rw (drop-map, turn-turn) (drop-drop n used s)
 left-next s used n false = ap turn (drop-drop n used s)
 
 next-quotients : (s : Bits) (used : ℕ) (z : Bool) → ended z (leftAt s used z) ≡ false

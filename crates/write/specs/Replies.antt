@@ -2,7 +2,7 @@
 use mathlib.Core.Path.{_≡_, refl, _∙_}
 use mathlib.Core.Bool.{false, cond}
 use mathlib.Core.List.{List, [], _∷_}
-use Prim.Native.Nat.{ℕ, _^_, _≤_, _<_}
+use Prim.Native.Nat.{ℕ, _^_, _<_}
 use native.Mathlib.Omega.{arith}
 use lib.Dec.{ltb}
 use lib.ListN.{length}
@@ -15,7 +15,7 @@ use Rattle.blocks.specs.Laws.{block-length, block-whole}
 use Rattle.blocks.specs.declared.Block.{Block}
 use Rattle.families.specs.Published.{words1983}
 use Rattle.keys.specs.Keys.{Canonical, keyOf, columnOf}
-use Rattle.keys.specs.Back.{not-canonical, closed-canonical, key-canonical}
+use Rattle.keys.specs.Back.{closed-canonical, canonical-some, key-canonical}
 use Rattle.keys.specs.Size.{key-size}
 use Rattle.outcomes.specs.Outcomes.{Answer, leaves, refuses, called}
 use Rattle.outcomes.specs.Refusals.{zeroDenominator, shortBuffer}
@@ -25,10 +25,6 @@ use Rattle.put.specs.Putting.{textPut, columnPut}
 use Rattle.spell.specs.Callers.{Spells, told-zero, told-key}
 use Rattle.spell.specs.Spelling.{spelling}
 use Rattle.spell.specs.declared.Spelled.the-variants.{Key, ZeroDenominator}
-
-some : (k : Bits) → Canonical k → 1 ≤ length k
-some [] c = absurd (not-canonical c)
-some (b ∷ k) c = omega arith
 
 module _ (p q : ℕ) (small : p < 2 ^ 32) (low : q < 2 ^ 32) (b : Block) (n d : ℕ) (e : Key b n d ≡ spelling p q) where
   abbrev key : Bits
@@ -46,7 +42,7 @@ module _ (p q : ℕ) (small : p < 2 ^ 32) (low : q < 2 ^ 32) (b : Block) (n d : 
 
   key-held : closed (bitsOfBlock b) ≡ key
   key-held =
-      closed-equal (bitsOfBlock b) key (omega (arith, block-length b)) (some key canonical) held
+      closed-equal (bitsOfBlock b) key (omega (arith, block-length b)) (canonical-some key canonical) held
       ∙ closed-canonical key canonical
 
   -- the answer by the count of characters
@@ -58,7 +54,7 @@ module _ (p q : ℕ) (small : p < 2 ^ 32) (low : q < 2 ^ 32) (b : Block) (n d : 
       → Put (ltb (length m) size) m (inFront t m) (length key) r l
       → leaves (answer r) l ≡ called (zeroDenominator q ∷ shortBuffer size m ∷ []) (counts p q) m (inFront t m)
   told size t m r l put =
-      put-called size 2 (λ c. c ∷ n ∷ []) m (inFront t m) (length key) r l (some key canonical) refl put
+      put-called size 2 (λ c. c ∷ n ∷ []) m (inFront t m) (length key) r l (canonical-some key canonical) refl put
       ∙ (λ i. called (shortBuffer size m ∷ []) (length key ∷ spells .quotients i ∷ []) m (inFront t m))
       ∙ told-key p q (shortBuffer size m ∷ []) (counts p q) m (inFront t m) b n d e .1
 
