@@ -102,15 +102,16 @@ module _ (F : Family) where
       even-ended-unique (formOf n m) l (form-even-ended n m d) h
       (sym (scaled-cross (gcd n m) n m (valueOf (formOf n m)) (form-scaled n m d)))
 
+  -- the quotients of a key are the even-ended form of its value
+  pub value-form : (k : Bits) (p q : ℕ) → valueOfKey F k ≡ p over q → formOf p q ≡ quotientsOf F k
+  value-form k p q v = rw v at (even-ended-again (quotientsOf F k) (quotients-even-ended F k) (value-denominator k))
+
   -- writing what a canonical key reads as gives that key
   pub value-key : (k : Bits) (p q : ℕ) → Canonical k → valueOfKey F k ≡ p over q → keyOf F p q ≡ k
   unfolding keyOf
   value-key k p q c v =
-      let l = quotientsOf F k in
-      let h = quotients-even-ended F k in
-      let (b, s, e) = written-first l h in
-      let again : formOf p q ≡ l = rw v at (even-ended-again l h (value-denominator k)) in
-      rw (again, e) (closed-to b s k c (rw e at (written-same F k)))
+      let (b, s, e) = written-first (quotientsOf F k) (quotients-even-ended F k) in
+      rw (value-form k p q v, e) (closed-to b s k c (rw e at (written-same F k)))
 
   -- so each canonical key is the key of exactly one ratio
   pub key-of-one : (k : Bits) → Canonical k → (v : Ratio) × (1 ≤ v .den) × (keyOf F (v .num) (v .den) ≡ k)

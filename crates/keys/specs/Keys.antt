@@ -26,11 +26,15 @@ written F (suc a ∷ l) = true ∷ spelled F (suc a ∷ l)
 unfoldable pub keyOf : Family → ℕ → ℕ → Bits
 keyOf F p q = closed (written F (formOf p q))
 
--- how many quotients are written: a leading 0 isn't
+-- the quotients that are written: a leading 0 isn't
+abbrev pub withoutZero : List ℕ → List ℕ
+withoutZero [] = []
+withoutZero (zero ∷ l) = l
+withoutZero (suc a ∷ l) = suc a ∷ l
+
+-- how many they are
 abbrev pub countOf : List ℕ → ℕ
-countOf [] = 0
-countOf (zero ∷ l) = length l
-countOf (suc a ∷ l) = suc (length l)
+countOf l = length (withoutZero l)
 
 -- a key is canonical if it is 0 or ends in 1
 abbrev pub Canonical : Bits → Type 0

@@ -5,6 +5,7 @@ pub mod Reading
 pub mod Back
 pub mod Order
 pub mod Size
+pub mod Places
 pub mod Cutting
 pub mod Widths
 pub mod Near

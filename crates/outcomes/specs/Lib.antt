@@ -3,9 +3,14 @@ pub mod Refusals
 pub mod Writing
 pub mod Reading
 pub mod Packing
+pub mod Comparing
+pub mod Cutting
+pub mod Stepping
 pub mod AsPrinted
 pub mod Laws
 pub mod Buffers
 pub mod TextKeys
 pub mod RoundTrips
+pub mod Orders
+pub mod Steps
 pub mod Rewriting

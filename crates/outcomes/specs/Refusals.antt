@@ -45,6 +45,14 @@ keyRefusals k more = emptyKey k ∷ longKey k ∷ strangeKey k ∷ openKey k ∷
 abbrev pub outOfRange : Ratio → Refusal
 outOfRange r = (7, ltb limit (r .num) || ltb limit (r .den))
 
+-- 7, for a step: its quotient above that
+abbrev pub longQuotient : ℕ → Refusal
+longQuotient a = (7, ltb limit a)
+
+-- 8: not 1 to most; a cut width's most is 96, and that of the characters used at a place 160
+abbrev pub outside : ℕ → ℕ → Refusal
+outside most n = (8, eqb n 0 || ltb most n)
+
 -- 9: column not of exactly 12 bytes
 abbrev pub wrongColumn : List ℕ → Refusal
 wrongColumn c = (9, not (eqb (length c) 12))

@@ -18,7 +18,7 @@ use Rattle.fractions.specs.Euclid.{usual-scaled, usual-value}
 use Rattle.keys.specs.Keys.{keyOf, valueOfKey, columnOf}
 use Rattle.keys.specs.Size.{limit, key-size}
 use Rattle.keys.specs.Back.{key-canonical, key-value, value-same}
-use Rattle.outcomes.specs.Outcomes.{Refusal, gives}
+use Rattle.outcomes.specs.Outcomes.{Refusal, gives, called}
 use Rattle.outcomes.specs.Refusals.{zeroDenominator, shortBuffer, keyRefusals, outOfRange, wrongColumn}
 use Rattle.outcomes.specs.Laws.{Clear, clear-called}
 use Rattle.outcomes.specs.TextKeys.{bits-of-text, text-clear}
@@ -57,6 +57,11 @@ judged-more k more (a, (b, (c, (d, u)))) r = (a, (b, (c, (d, r))))
 pub judged-first : (k : List ℕ) (more : List Refusal) → Clear (keyRefusals k more)
     → Clear (keyRefusals k []) × Clear more
 judged-first k more (a, (b, (c, (d, r)))) = ((a, (b, (c, (d, tt)))), r)
+
+-- where the key has no fault, the rest of the refusals decide
+pub judged-called : (k : List ℕ) (more : List Refusal) (values before after : List ℕ) → Clear (keyRefusals k [])
+    → called (keyRefusals k more) values before after ≡ called more values before after
+judged-called k more v b a (c, (d, (e, (f, u)))) = rw (c, d, e, f)
 
 read-text : (k : List ℕ) (v : Ratio) → Clear (keyRefusals k []) → valueOfKey words1983 (bitsOfText k) ≡ v
     → v .num ≤ limit → v .den ≤ limit → readText k ≡ gives (terms v) []

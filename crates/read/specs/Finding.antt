@@ -12,8 +12,8 @@ use Rattle.families.specs.Published.{words1983}
 use Rattle.fractions.specs.Fractions.{Ratio, _over_}
 use Rattle.fractions.specs.Convergents.{convergent, forward}
 use Rattle.keys.specs.Keys.{read, valueOfKey}
+use Rattle.keys.specs.Places.{quotientsAt}
 use Rattle.outcomes.specs.Refusals.{outOfRange}
-use Rattle.scan.specs.Taking.{leftAt}
 use Rattle.read.specs.declared.find.Found.{Found}
 use Rattle.read.specs.declared.find.Found.the-variants as found
 
@@ -46,10 +46,6 @@ foundFrom used u v [] = packed u
 foundFrom used u v (a ∷ l) =
     let w = convergent a u v in cond (isOver w) used (foundFrom (used + length (wordOf a)) w u l)
 
--- the quotients that s has from a place on, where a turned word is due (true) or a word
-abbrev pub quotientsAt : Bits → ℕ → Bool → List ℕ
-quotientsAt s used z = read words1983 z (leftAt s used z)
-
 -- a place from which a convergent u goes on, at most the given characters used
 pub record Ready (most used u : ℕ) : Type 0 where
   pub few : used ≤ most
@@ -57,8 +53,8 @@ pub record Ready (most used u : ℕ) : Type 0 where
 
 -- r is what is found in s from a place on, and below 2^32 where the last convergent is over the limit
 pub record Finds (s : Bits) (used : ℕ) (z : Bool) (u v : Ratio) (r : ℕ) : Type 0 where
-  pub number : r ≡ foundFrom used u v (quotientsAt s used z)
-  pub low : isOver (forward u v (quotientsAt s used z)) ≡ true → r < 2 ^ 32
+  pub number : r ≡ foundFrom used u v (quotientsAt words1983 s used z)
+  pub low : isOver (forward u v (quotientsAt words1983 s used z)) ≡ true → r < 2 ^ 32
 
 -- the same of a whole string, whose first character says by which convergents reading begins
 unfoldable pub foundIn : Bits → ℕ

@@ -1,44 +1,30 @@
 -- One step of reading by forward convergents: what is found from a place on, by what the word there is.
-use mathlib.Core.Path.{_≡_, refl, sym, _∙_, ap}
+use mathlib.Core.Path.{_≡_, refl, sym, _∙_}
 use mathlib.Core.Bool.{Bool, true, false, not, cond, true≢false}
 use mathlib.Core.Logic.{inl, inr}
 use mathlib.Core.List.{[], _∷_}
 use Prim.Native.Nat.{ℕ, _+_, _/_, _%_, _^_, _≤_, _<_}
-use native.Mathlib.Nat.{mul-le-mul, mul-le-mul-left, mul-le-mul-right}
+use native.Mathlib.Nat.{mul-le-mul-left, mul-le-mul-right}
 use native.Mathlib.Decide.{decLt}
 use native.Mathlib.Omega.{arith}
 use borrow.Author.Tests.{ltb-true, ltb-false}
 use lib.Dec.{ltb}
-use lib.Pow.{pow-mono}
-use lib.ListN.{length, drop, drop-of-length-le}
-use lib.Seq.{drop-drop}
-use Rattle.bits.specs.Strings.{Bits, turn}
-use Rattle.bits.specs.Order.{turn-turn}
-use Rattle.bits.specs.Pieces.{drop-map}
+use lib.ListN.{length}
+use Rattle.bits.specs.Strings.{Bits}
 use Rattle.families.specs.Families.{ended}
 use Rattle.families.specs.Words.{wordOf, firstNumber}
 use Rattle.families.specs.Complete.{word-complete}
-use Rattle.families.specs.Measured.{word-short}
 use Rattle.families.specs.Published.{words1983}
 use Rattle.fractions.specs.Fractions.{Ratio}
 use Rattle.fractions.specs.Convergents.{convergent}
 use Rattle.keys.specs.Size.{limit}
-use Rattle.keys.specs.Reading.{read-end, read-next, word-positive}
-use Rattle.scan.specs.Taking.{leftAt, takenFrom}
+use Rattle.keys.specs.Reading.{word-positive}
+use Rattle.keys.specs.Places.{leftAt, quotientsAt, quotients-end, quotients-next, word-fits, turned-within}
+use Rattle.scan.specs.Taking.{takenFrom}
 use Rattle.scan.specs.declared.Taken.{Taken}
 use Rattle.scan.specs.declared.Taken.the-variants.{Quotient, Long, End}
-use Rattle.read.specs.Finding.{ratioIn, isOver, limited, foundFrom, quotientsAt, Finds}
+use Rattle.read.specs.Finding.{ratioIn, isOver, limited, foundFrom, Finds}
 use Rattle.read.specs.Next.{term-over, not-over, none-over, some-within}
-
--- what is left after one more word
-left-next : (s : Bits) (used n : ℕ) (z : Bool) → turn (drop n (leftAt s used z)) ≡ leftAt s (used + n) (not z)
-left-next s used n true = rw (drop-map, turn-turn) (drop-drop n used s)
-left-next s used n false = ap turn (drop-drop n used s)
-
-next-quotients : (s : Bits) (used : ℕ) (z : Bool) → ended z (leftAt s used z) ≡ false
-    → quotientsAt s used z ≡ firstNumber z (leftAt s used z)
-    ∷ quotientsAt s (used + length (wordOf (firstNumber z (leftAt s used z)))) (not z)
-next-quotients s used z g = read-next words1983 z (leftAt s used z) g ∙ rw left-next refl
 
 -- what each answer of taking a word at a place tells: it is that of a, and has n characters
 record Goes (s : Bits) (used : ℕ) (z : Bool) (a n : ℕ) : Type 0 where
@@ -87,7 +73,7 @@ module _ {s : Bits} {used : ℕ} {z : Bool} where
       → Finds s used z (ratioIn u) v u
   unfolding foundFrom
   found-end {u} t h =
-      let e : quotientsAt s used z ≡ [] = read-end words1983 z (leftAt s used z) (told s used z End t) in
+      let e : quotientsAt words1983 s used z ≡ [] = quotients-end words1983 s used z (told s used z End t) in
       let k : isOver (ratioIn u) ≡ false = not-over (ratioIn u) (omega arith) (omega arith) in
       record { number = rw e (omega arith); low = λ o. absurd (true≢false (sym (rw e at o) ∙ k)) }
 
@@ -95,7 +81,7 @@ module _ {s : Bits} {used : ℕ} {z : Bool} where
   first-over : {u v : Ratio} → ended z (leftAt s used z) ≡ false
       → isOver (convergent (firstNumber z (leftAt s used z)) u v) ≡ true → used < 2 ^ 32 → Finds s used z u v used
   unfolding foundFrom
-  first-over g o h = record { number = rw (next-quotients s used z g, o) refl; low = λ w. h }
+  first-over g o h = record { number = rw (quotients-next words1983 s used z g, o) refl; low = λ w. h }
 
   pub found-long : {u v : Ratio} → Long ≡ takenFrom z (leftAt s used z) → 1 ≤ u .num + u .den → used < 2 ^ 32
       → Finds s used z u v used
@@ -114,12 +100,7 @@ module _ {s : Bits} {used : ℕ} {z : Bool} {u v a n w : ℕ} (e : Makes s used 
   -- a word of a number within the limit has at least one character, and at most 64
   pub word-size : (1 ≤ n) × (n ≤ 64)
   word-size =
-      let h = goes .positive in
-      rw (goes .count) (word-positive words1983 a h, by-size h (goes .small) (decLt 64 (length (wordOf a))))
-    where
-      by-size : 1 ≤ a → a ≤ limit → Dec (64 < length (wordOf a)) → length (wordOf a) ≤ 64
-      by-size h l (yes k) = absurd (omega (arith, word-short a h, mul-le-mul l l, pow-mono k))
-      by-size h l (no k) = omega arith
+      let h = goes .positive in rw (goes .count) (word-positive words1983 a h, word-fits words1983 a h (goes .small))
 
   pub found-over : 1 ≤ u → w ≡ 0 → used < 2 ^ 32 → Finds s used z (ratioIn u) (ratioIn v) used
   found-over k o =
@@ -136,16 +117,11 @@ module _ {s : Bits} {used : ℕ} {z : Bool} {u v a n w : ℕ} (e : Makes s used 
   found-on {r} h f =
       let x = convergent a (ratioIn u) (ratioIn v) in
       let (o, m) = some-within x (e .made) h in
-      let l : quotientsAt s used z ≡ a ∷ quotientsAt s (used + n) (not z) =
-      rw (goes .count, ← goes .first) (next-quotients s used z (goes .going)) in
+      let l : quotientsAt words1983 s used z ≡ a ∷ quotientsAt words1983 s (used + n) (not z) =
+      rw (goes .count, ← goes .first) (quotients-next words1983 s used z (goes .going)) in
       let c : Finds s (used + n) (not z) x (ratioIn u) r = rw m at f in
       record { number = rw (l, o, ← goes .count) (c .number); low = rw l (c .low) }
 
 -- no turned word begins past the end
-pub turned-within : {s : Bits} {used u v a n w : ℕ} → Makes s used true u v a n w → used < length s
-turned-within {s} {used} e = by-size (decLt used (length s)) (goes e .going)
-  where
-    by-size : Dec (used < length s) → ended true (leftAt s used true) ≡ false → used < length s
-    by-size (yes h) e = h
-    by-size (no h) e =
-        let k : length s ≤ used = omega arith in absurd (true≢false (rw (drop-of-length-le s k) at e))
+pub makes-within : {s : Bits} {used u v a n w : ℕ} → Makes s used true u v a n w → used < length s
+makes-within {s} {used} e = turned-within s used (goes e .going)

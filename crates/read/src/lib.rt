@@ -1,5 +1,4 @@
 // Reading a key, from text or from a column.
-use blocks::Block;
 use load::Loaded;
 use scan::Fault;
 use scan::Judged;

@@ -2,14 +2,15 @@
 -- the quotient is above the limit, or that the key ended.
 use mathlib.Core.Path.{_≡_, sym, ap}
 use mathlib.Core.Bool.{Bool, true, false, cond}
-use Prim.Native.Nat.{ℕ, _≤_, _<_}
+use Prim.Native.Nat.{_≤_, _<_}
 use borrow.Author.Tests.{lt-ltb, le-ltb}
 use lib.Dec.{ltb}
-use lib.ListN.{length, drop}
-use Rattle.bits.specs.Strings.{Bits, turn}
+use lib.ListN.{length}
+use Rattle.bits.specs.Strings.{Bits}
 use Rattle.families.specs.Families.{ended}
 use Rattle.families.specs.Words.{wordOf, firstNumber}
 use Rattle.keys.specs.Size.{limit}
+use Rattle.keys.specs.Places.{leftAt}
 use Rattle.scan.specs.declared.Kind.{Kind}
 use Rattle.scan.specs.declared.Kind.the-variants.{Word, Turned}
 use Rattle.scan.specs.declared.Place.{Place}
@@ -20,10 +21,6 @@ use Rattle.scan.specs.declared.Taken.the-variants.{Quotient, Long, End}
 abbrev pub isTurned : Kind → Bool
 isTurned Word = false
 isTurned Turned = true
-
--- what is left of s after the characters used, as it is read: turned where a turned word is due
-abbrev pub leftAt : Bits → ℕ → Bool → Bits
-leftAt s used z = cond z (turn (drop used s)) (drop used s)
 
 -- the word with which s, going on with z, begins
 unfoldable pub takenFrom : Bool → Bits → Taken

@@ -8,7 +8,7 @@ use borrow.Fn.Kinds.{In}
 use borrow.Fn.PlainCycle.{Measures, is, falls, and}
 use Rattle.blocks.specs.Laws.{block-length}
 use Rattle.read.specs.Finding.{bitsIn}
-use Rattle.read.specs.Steps.{found-end, found-long, Makes, word-size, turned-within, found-over, found-on}
+use Rattle.read.specs.Steps.{found-end, found-long, Makes, word-size, makes-within, found-over, found-on}
 use Rattle.scan.proofs.take.Reads as take-reads
 use Rattle.read.proofs.find.next.Reads as next-reads
 use Rattle.read.proofs.find.find_turned.Reads as turned
@@ -85,7 +85,7 @@ turned-goes-on t c κs =
     let b = c .before .before .before .before .before .before .args in
     let g = turned-makes t (c .before) in
     let (l, h) = word-size g in
-    let w : b .used < 96 = rw (block-length _) at (turned-within g) in
+    let w : b .used < 96 = rw (block-length _) at (makes-within g) in
     (omega arith, record { few = omega arith; some = omega arith })
 
 word-goes-on : (t : ℕ) → word-lts.Need-find-turned-requires (word-claims t) (word-at t) word.Post
