@@ -1,31 +1,40 @@
 -- The demands are met. Each field names its theorem.
-use mathlib.Core.Path.{ap}
+use mathlib.Core.Path.{_≡_, ap}
+use mathlib.Core.Bool.{false, not}
 use mathlib.Core.List.{List, [], _∷_}
 use Prim.Native.Nat.{ℕ, _≤_}
 use lib.Dec.{lit≤}
-use lib.ListN.{length}
+use lib.ListN.{length, getD}
 use Rattle.bits.specs.Binary.{bitsOfBytes}
 use Rattle.bits.specs.Texts.{textOf, bitsOfText, inFront}
 use Rattle.bits.specs.Strings.{closed}
 use Rattle.families.specs.Families.{Family}
 use Rattle.families.specs.Published.{words1983}
 use Rattle.fractions.specs.Fractions.{lowestTerms}
-use Rattle.keys.specs.Keys.{keyOf, valueOfKey, columnOf}
+use Rattle.keys.specs.Keys.{keyOf, valueOfKey, cutTo, columnOf}
 use Rattle.keys.specs.Back.{key-value, key-canonical, value-key, key-of-one}
 use Rattle.keys.specs.Order.{key-multiple, key-order, key-equal}
 use Rattle.keys.specs.Size.{limit, key-size, count-size}
 use Rattle.keys.specs.Cutting.{cut-places}
 use Rattle.keys.specs.Distance.{cut-distance}
-use Rattle.outcomes.specs.Outcomes.{Outcome, Refusal, called}
+use Rattle.outcomes.specs.Outcomes.{Outcome, Refusal, firstOf, called}
+use Rattle.outcomes.specs.Refusals.{outside, longQuotient}
 use Rattle.outcomes.specs.Refusals.{zeroDenominator, shortBuffer, keyRefusals, outOfRange, wrongColumn}
-use Rattle.outcomes.specs.Laws.{called-number, called-kept, clear-first}
+use Rattle.outcomes.specs.Laws.{called-number, called-kept, Clear, Numbered, clear-first}
 use Rattle.outcomes.specs.Writing.{counts, writeText, writeColumn}
 use Rattle.outcomes.specs.Reading.{terms, readText, readColumn, reduce}
 use Rattle.outcomes.specs.Packing.{columnToText, textToColumn}
+use Rattle.outcomes.specs.Comparing.{standing, compareText}
+use Rattle.outcomes.specs.Cutting.{cutText}
+use Rattle.outcomes.specs.Stepping.{placeOf, startText, quotientAt, placeAfter, stepText}
+use Rattle.outcomes.specs.Cuts.{text-cut}
+use Rattle.outcomes.specs.Orders.{text-compared}
+use Rattle.outcomes.specs.Steps.{text-stepped}
 use Rattle.outcomes.specs.RoundTrips.{text-written, column-written, text-back, column-back}
 use Rattle.outcomes.specs.Rewriting.{text-lowest, column-lowest, text-again, column-again}
 use Rattle.outcomes.specs.Rewriting.{text-packed, packed-back, column-unpacked, unpacked-back}
-use Rattle.demands.specs.Demands.{Refuses, Checked, Written, Again, Demands}
+use Rattle.demands.specs.Demands.{Refuses, Checked, Written, Faithful, Near, Demands}
+use Rattle.demands.specs.Again.{Again}
 use Rattle.demands.specs.Ordered.{Ordered}
 
 -- every call is `called` with its order
@@ -37,7 +46,7 @@ refuses-first order values before after = record {
 }
 
 checked : Checked
-unfolding writeText writeColumn readText readColumn columnToText textToColumn reduce
+unfolding writeText writeColumn readText readColumn columnToText textToColumn reduce compareText cutText startText stepText
 checked = record {
   writing-text = λ p q m.
       refuses-first (zeroDenominator q ∷ shortBuffer 96 m ∷ []) (counts p q) m
@@ -57,6 +66,15 @@ checked = record {
   packing = λ k m.
       refuses-first (keyRefusals k (shortBuffer 12 m ∷ [])) [] m (inFront (columnOf (bitsOfText k)) m);
   reducing = λ p q. refuses-first (zeroDenominator q ∷ []) (terms (lowestTerms p q)) [] [];
+  comparing = λ j k.
+      refuses-first (keyRefusals j (keyRefusals k [])) (standing (bitsOfText j) (bitsOfText k) ∷ []) [] [];
+  cutting = λ k m n.
+      let c = cutTo n (bitsOfText k) in
+      refuses-first (keyRefusals k (outside 96 n ∷ shortBuffer 96 m ∷ [])) (length c ∷ []) m (inFront (textOf c) m);
+  starting = λ k. refuses-first (keyRefusals k []) (placeOf 1 (not (getD (bitsOfText k) 0 false))) [] [];
+  stepping = λ k u z.
+      let a = quotientAt (bitsOfText k) u z in
+      refuses-first (keyRefusals k (outside 160 u ∷ longQuotient a ∷ [])) (a ∷ []) (placeOf u z) (placeAfter a u z);
 }
 
 written : (p q : ℕ) → 1 ≤ q → p ≤ limit → q ≤ limit → Written p q (keyOf words1983 p q)
@@ -68,6 +86,11 @@ written p q positive small low = record {
   column-back = column-back p q positive small low;
 }
 
+-- a key that is refused by no number has no fault
+judged : (k : List ℕ) (more : List Refusal) → Numbered more → firstOf (keyRefusals k more) ≡ 0
+    → Clear (keyRefusals k more)
+judged k more numbered = clear-first (keyRefusals k more) (lit≤ tt, (lit≤ tt, (lit≤ tt, (lit≤ tt, numbered))))
+
 again : Again
 again = record {
   lowest = text-lowest;
@@ -75,8 +98,7 @@ again = record {
   text = text-again;
   column = λ c m p q bytes e h. ap (λ (o : Outcome). o .memory) (column-again c m p q bytes e h);
   packed = λ k l m good h j.
-      let clear = clear-first (keyRefusals k []) (lit≤ tt, (lit≤ tt, (lit≤ tt, (lit≤ tt, tt)))) good in
-      (text-packed k l clear h, packed-back k m clear j);
+      let clear = judged k [] tt good in (text-packed k l clear h, packed-back k m clear j);
   unpacked = λ c l m bytes size h j. (column-unpacked c l size h, unpacked-back c m size bytes j);
 }
 
@@ -91,9 +113,23 @@ ordered F = record {
   equal = key-equal F;
 }
 
-pub demands : Demands
-demands = record {
-  checked = checked;
-  faithful = record { written = written; again = again; ordered = ordered };
-  near = record { distance = cut-distance; places = cut-places };
+faithful : Faithful
+faithful = record {
+  written = written;
+  again = again;
+  stepped = λ k p q good. text-stepped k (judged k [] tt good) p q;
+  compared = λ j k p q r s good.
+      let numbered : Numbered (keyRefusals k []) = (lit≤ tt, (lit≤ tt, (lit≤ tt, (lit≤ tt, tt)))) in
+      text-compared j k p q r s (judged j (keyRefusals k []) numbered good);
+  ordered = ordered;
 }
+
+near : Near
+near = record {
+  cut = λ k m n good. text-cut k m n (judged k [] tt good);
+  distance = cut-distance;
+  places = cut-places;
+}
+
+pub demands : Demands
+demands = record { checked = checked; faithful = faithful; near = near }

@@ -11,6 +11,7 @@ pub mod Laws
 pub mod Buffers
 pub mod TextKeys
 pub mod RoundTrips
+pub mod Cuts
 pub mod Orders
 pub mod Steps
 pub mod Rewriting

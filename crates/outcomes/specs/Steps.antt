@@ -26,6 +26,7 @@ use Rattle.outcomes.specs.Laws.{Clear, clear-called}
 use Rattle.outcomes.specs.Stepping.{placeOf, placeAfter, startText, quotientAt, stepText, Steps}
 use Rattle.outcomes.specs.TextKeys.{clear-canonical}
 use Rattle.outcomes.specs.RoundTrips.{judged-called}
+use Rattle.outcomes.specs.Cuts.{inside}
 
 -- a text key without fault, and its bits
 module _ (k : List ℕ) (clear : Clear (keyRefusals k [])) where
@@ -43,15 +44,12 @@ module _ (k : List ℕ) (clear : Clear (keyRefusals k [])) where
     abbrev a : ℕ
     a = quotientAt s used z
 
-    inside : outside 160 used .1 ≡ false
-    inside = rw (ne-eqb used 0 (λ e. omega arith), le-ltb 160 used few)
-
     stepped : stepText k used z
         ≡ called (longQuotient a ∷ []) (a ∷ []) (placeOf used z) (placeAfter a used z)
     unfolding stepText
     stepped =
         judged-called k (outside 160 used ∷ longQuotient a ∷ []) (a ∷ []) (placeOf used z) (placeAfter a used z) clear
-        ∙ rw inside refl
+        ∙ rw (inside 160 used some few) refl
 
     step-long : limit < a → stepText k used z ≡ refuses 7 1 (placeOf used z)
     step-long h = stepped ∙ rw (lt-ltb limit a h) refl
