@@ -26,7 +26,7 @@ use Rattle.outcomes.specs.Reading.{terms, readText, readColumn, reduce}
 use Rattle.outcomes.specs.Packing.{columnToText, textToColumn}
 use Rattle.outcomes.specs.Comparing.{standing, compareText}
 use Rattle.outcomes.specs.Cutting.{cutText}
-use Rattle.outcomes.specs.Stepping.{placeOf, startText, quotientAt, placeAfter, stepText}
+use Rattle.outcomes.specs.Stepping.{placeOf, startText, quotientAt, found, placeAfter, stepText}
 use Rattle.outcomes.specs.Cuts.{text-cut}
 use Rattle.outcomes.specs.Orders.{text-compared}
 use Rattle.outcomes.specs.Steps.{text-stepped}
@@ -74,7 +74,7 @@ checked = record {
   starting = λ k. refuses-first (keyRefusals k []) (placeOf 1 (not (getD (bitsOfText k) 0 false))) [] [];
   stepping = λ k u z.
       let a = quotientAt (bitsOfText k) u z in
-      refuses-first (keyRefusals k (outside 160 u ∷ longQuotient a ∷ [])) (a ∷ []) (placeOf u z) (placeAfter a u z);
+      refuses-first (keyRefusals k (outside 160 u ∷ longQuotient a ∷ [])) (found a) (placeOf u z) (placeAfter a u z);
 }
 
 written : (p q : ℕ) → 1 ≤ q → p ≤ limit → q ≤ limit → Written p q (keyOf words1983 p q)

@@ -6,6 +6,7 @@ pub mod Back
 pub mod Order
 pub mod Size
 pub mod Places
+pub mod Sameness
 pub mod Cutting
 pub mod Widths
 pub mod Near

@@ -3,10 +3,8 @@ use mathlib.Core.Path.{_≡_, refl, sym, _∙_, ap}
 use mathlib.Core.Bool.{Bool, true, false, not, cond, true≢false}
 use mathlib.Core.List.{List, [], _∷_}
 use Prim.Native.Nat.{ℕ, zero, suc, _+_, _≤_, _<_}
-use native.Mathlib.Nat.{mul-le-mul}
 use native.Mathlib.Decide.{decLt}
 use native.Mathlib.Omega.{arith}
-use lib.Pow.{pow-mono}
 use lib.ListN.{length, getD, drop, drop-of-length-le}
 use lib.Seq.{drop-drop}
 use Rattle.bits.specs.Strings.{Bits, turn}
@@ -15,7 +13,6 @@ use Rattle.bits.specs.Pieces.{drop-map}
 use Rattle.families.specs.Families.{Family, ended}
 use Rattle.fractions.specs.Fractions.{Quotients}
 use Rattle.keys.specs.Keys.{withoutZero, read, quotientsOf}
-use Rattle.keys.specs.Size.{limit}
 use Rattle.keys.specs.Reading.{read-spells, read-end, read-next}
 
 -- what is left of s after the characters used, as it is read: turned where a turned word is due
@@ -52,14 +49,6 @@ pub quotients-first : (F : Family) (s : Bits) → 1 ≤ length s
 quotients-first F [] h = absurd (omega arith)
 quotients-first F (true ∷ s) h = sym (all-written (read F false s) ((read-spells F false s) .quotients))
 quotients-first F (false ∷ s) h = refl
-
--- a word of a number within the limit has at most 64 characters
-pub word-fits : (F : Family) (a : ℕ) → 1 ≤ a → a ≤ limit → length (F .word a) ≤ 64
-word-fits F a h l = by-size (decLt 64 (length (F .word a)))
-  where
-    by-size : Dec (64 < length (F .word a)) → length (F .word a) ≤ 64
-    by-size (yes k) = absurd (omega (arith, F .short a h, mul-le-mul l l, pow-mono k))
-    by-size (no k) = omega arith
 
 -- no turned word begins past the end
 pub turned-within : (s : Bits) (used : ℕ) → ended true (leftAt s used true) ≡ false → used < length s

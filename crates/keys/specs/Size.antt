@@ -89,6 +89,11 @@ module _ (F : Family) where
       below-power (length (spelled F (a ∷ b ∷ l))) 96
       (omega (arith, spelled-room z a b l q, mul-le-mul (mul-le-mul n n) (add-le-add n d)))
 
+  -- a word of a number of at most 32 bits
+  pub word-fits : (a : ℕ) → 1 ≤ a → a ≤ limit → length (F .word a) ≤ 64
+  word-fits a h l =
+      omega (arith, below-power (length (F .word a)) 65 (omega (arith, F .short a h, mul-le-mul l l)))
+
   -- a list of k quotients or more has at least the value's terms of k ones
   ones-least : (k : ℕ) (z : Bool) (l : List ℕ) → Quotients z l → k ≤ length l
       → ((valueOf (replicate k 1)) .num ≤ (valueOf l) .num) × ((valueOf (replicate k 1)) .den ≤ (valueOf l) .den)

@@ -6,7 +6,7 @@ use mathlib.Core.List.{List, [], _∷_, nil≢cons, head-eq-of-cons-eq, tail-eq-
 use Prim.Native.Nat.{ℕ, _+_, _≤_, _<_}
 use native.Mathlib.Decide.{decLt}
 use native.Mathlib.Omega.{arith}
-use borrow.Author.Tests.{lt-ltb, le-ltb, ne-eqb}
+use borrow.Author.Tests.{lt-ltb, le-ltb}
 use lib.ListN.{length, getD, length-map, drop-of-length-le}
 use Rattle.bits.specs.Strings.{Bits}
 use Rattle.bits.specs.Texts.{bitsOfText}
@@ -16,14 +16,13 @@ use Rattle.families.specs.Complete.{word-complete}
 use Rattle.families.specs.Published.{words1983}
 use Rattle.fractions.specs.Fractions.{formOf, _over_}
 use Rattle.keys.specs.Keys.{withoutZero, Canonical, valueOfKey}
-use Rattle.keys.specs.Size.{limit}
+use Rattle.keys.specs.Size.{limit, word-fits}
 use Rattle.keys.specs.Back.{canonical-some, value-form}
-use Rattle.keys.specs.Places.{leftAt, quotientsAt, quotients-end, quotients-next, quotients-first}
-use Rattle.keys.specs.Places.{word-fits, turned-within}
+use Rattle.keys.specs.Places.{leftAt, quotientsAt, quotients-end, quotients-next, quotients-first, turned-within}
 use Rattle.outcomes.specs.Outcomes.{gives, refuses, called}
 use Rattle.outcomes.specs.Refusals.{keyRefusals, outside, longQuotient}
 use Rattle.outcomes.specs.Laws.{Clear, clear-called}
-use Rattle.outcomes.specs.Stepping.{placeOf, placeAfter, startText, quotientAt, stepText, Steps}
+use Rattle.outcomes.specs.Stepping.{placeOf, startText, quotientAt, found, placeAfter, stepText, Steps}
 use Rattle.outcomes.specs.TextKeys.{clear-canonical}
 use Rattle.outcomes.specs.RoundTrips.{judged-called}
 use Rattle.outcomes.specs.Cuts.{inside}
@@ -45,16 +44,16 @@ module _ (k : List ℕ) (clear : Clear (keyRefusals k [])) where
     a = quotientAt s used z
 
     stepped : stepText k used z
-        ≡ called (longQuotient a ∷ []) (a ∷ []) (placeOf used z) (placeAfter a used z)
+        ≡ called (longQuotient a ∷ []) (found a) (placeOf used z) (placeAfter a used z)
     unfolding stepText
     stepped =
-        judged-called k (outside 160 used ∷ longQuotient a ∷ []) (a ∷ []) (placeOf used z) (placeAfter a used z) clear
+        judged-called k (outside 160 used ∷ longQuotient a ∷ []) (found a) (placeOf used z) (placeAfter a used z) clear
         ∙ rw (inside 160 used some few) refl
 
-    step-long : limit < a → stepText k used z ≡ refuses 7 1 (placeOf used z)
+    step-long : limit < a → stepText k used z ≡ refuses 7 2 (placeOf used z)
     step-long h = stepped ∙ rw (lt-ltb limit a h) refl
 
-    step-given : a ≤ limit → stepText k used z ≡ gives (a ∷ []) (placeAfter a used z)
+    step-given : a ≤ limit → stepText k used z ≡ gives (found a) (placeAfter a used z)
     step-given h = stepped ∙ rw (le-ltb limit a h) refl
 
   -- past the end a word is that of 1
@@ -139,7 +138,7 @@ module _ (k : List ℕ) (clear : Clear (keyRefusals k [])) where
             next,
             omega (arith, within),
             step-given used z (f .some) few (rw first low)
-                ∙ rw (first, same, ne-eqb b 0 (λ n. omega (arith, positive))) refl,
+                ∙ rw (first, same, lt-ltb 0 b (omega (arith, positive))) refl,
             again next (not z)
                 (record { some = omega (arith, f .some); within = within; quotients = tail-eq-of-cons-eq both }),
           )

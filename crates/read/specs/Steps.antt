@@ -1,62 +1,26 @@
 -- One step of reading by forward convergents: what is found from a place on, by what the word there is.
 use mathlib.Core.Path.{_≡_, refl, sym, _∙_}
-use mathlib.Core.Bool.{Bool, true, false, not, cond, true≢false}
+use mathlib.Core.Bool.{Bool, true, false, not, true≢false}
 use mathlib.Core.Logic.{inl, inr}
 use mathlib.Core.List.{[], _∷_}
 use Prim.Native.Nat.{ℕ, _+_, _/_, _%_, _^_, _≤_, _<_}
 use native.Mathlib.Nat.{mul-le-mul-left, mul-le-mul-right}
 use native.Mathlib.Decide.{decLt}
 use native.Mathlib.Omega.{arith}
-use borrow.Author.Tests.{ltb-true, ltb-false}
-use lib.Dec.{ltb}
 use lib.ListN.{length}
 use Rattle.bits.specs.Strings.{Bits}
 use Rattle.families.specs.Families.{ended}
-use Rattle.families.specs.Words.{wordOf, firstNumber}
-use Rattle.families.specs.Complete.{word-complete}
+use Rattle.families.specs.Words.{firstNumber}
 use Rattle.families.specs.Published.{words1983}
 use Rattle.fractions.specs.Fractions.{Ratio}
 use Rattle.fractions.specs.Convergents.{convergent}
 use Rattle.keys.specs.Size.{limit}
-use Rattle.keys.specs.Reading.{word-positive}
-use Rattle.keys.specs.Places.{leftAt, quotientsAt, quotients-end, quotients-next, word-fits, turned-within}
+use Rattle.keys.specs.Places.{leftAt, quotientsAt, quotients-end, quotients-next, turned-within}
 use Rattle.scan.specs.Taking.{takenFrom}
-use Rattle.scan.specs.declared.Taken.{Taken}
+use Rattle.scan.specs.Told.{Goes, told, taken-size}
 use Rattle.scan.specs.declared.Taken.the-variants.{Quotient, Long, End}
 use Rattle.read.specs.Finding.{ratioIn, isOver, limited, foundFrom, Finds}
 use Rattle.read.specs.Next.{term-over, not-over, none-over, some-within}
-
--- what each answer of taking a word at a place tells: it is that of a, and has n characters
-record Goes (s : Bits) (used : ℕ) (z : Bool) (a n : ℕ) : Type 0 where
-  pub going : ended z (leftAt s used z) ≡ false
-  pub first : firstNumber z (leftAt s used z) ≡ a
-  pub positive : 1 ≤ a
-  pub small : a ≤ limit
-  pub count : n ≡ length (wordOf a)
-
-abbrev Told : Bits → ℕ → Bool → Taken → Type 0
-Told s used z (Quotient a n) = Goes s used z a n
-Told s used z Long = (ended z (leftAt s used z) ≡ false) × (limit < firstNumber z (leftAt s used z))
-Told s used z End = ended z (leftAt s used z) ≡ true
-
-told : (s : Bits) (used : ℕ) (z : Bool) (t : Taken) → t ≡ takenFrom z (leftAt s used z) → Told s used z t
-unfolding takenFrom
-told s used z t e = rw e (by-tests (ended z (leftAt s used z)) (ltb limit a) refl refl)
-  where
-    a : ℕ
-    a = firstNumber z (leftAt s used z)
-
-    by-tests : (b o : Bool) → ended z (leftAt s used z) ≡ b → ltb limit a ≡ o
-        → Told s used z (cond b End (cond o Long (Quotient a (length (wordOf a)))))
-    by-tests true o p q = p
-    by-tests false true p q = (p, ltb-true limit a q)
-    by-tests false false p q = record {
-      going = p;
-      first = refl;
-      positive = (word-complete z (leftAt s used z) p) .0;
-      small = ltb-false limit a q;
-      count = refl;
-    }
 
 -- a quotient over the limit makes a convergent that is
 over-long : (a : ℕ) (u v : Ratio) → 1 ≤ u .num + u .den → limit < a → isOver (convergent a u v) ≡ true
@@ -73,7 +37,8 @@ module _ {s : Bits} {used : ℕ} {z : Bool} where
       → Finds s used z (ratioIn u) v u
   unfolding foundFrom
   found-end {u} t h =
-      let e : quotientsAt words1983 s used z ≡ [] = quotients-end words1983 s used z (told s used z End t) in
+      let g = told z (leftAt s used z) End t in
+      let e : quotientsAt words1983 s used z ≡ [] = quotients-end words1983 s used z g in
       let k : isOver (ratioIn u) ≡ false = not-over (ratioIn u) (omega arith) (omega arith) in
       record { number = rw e (omega arith); low = λ o. absurd (true≢false (sym (rw e at o) ∙ k)) }
 
@@ -86,7 +51,8 @@ module _ {s : Bits} {used : ℕ} {z : Bool} where
   pub found-long : {u v : Ratio} → Long ≡ takenFrom z (leftAt s used z) → 1 ≤ u .num + u .den → used < 2 ^ 32
       → Finds s used z u v used
   found-long {u} {v} t k h =
-      let (g, l) = told s used z Long t in first-over g (over-long (firstNumber z (leftAt s used z)) u v k l) h
+      let (g, l) = told z (leftAt s used z) Long t in
+      first-over g (over-long (firstNumber z (leftAt s used z)) u v k l) h
 
 -- the word at a place is that of a, has n characters, and makes of u and v the convergent w, or 0
 pub record Makes (s : Bits) (used : ℕ) (z : Bool) (u v a n w : ℕ) : Type 0 where
@@ -94,13 +60,11 @@ pub record Makes (s : Bits) (used : ℕ) (z : Bool) (u v a n w : ℕ) : Type 0 w
   pub made : w ≡ limited (convergent a (ratioIn u) (ratioIn v))
 
 module _ {s : Bits} {used : ℕ} {z : Bool} {u v a n w : ℕ} (e : Makes s used z u v a n w) where
-  goes : Goes s used z a n
-  goes = told s used z (Quotient a n) (e .taken)
+  goes : Goes z (leftAt s used z) a n
+  goes = told z (leftAt s used z) (Quotient a n) (e .taken)
 
-  -- a word of a number within the limit has at least one character, and at most 64
   pub word-size : (1 ≤ n) × (n ≤ 64)
-  word-size =
-      let h = goes .positive in rw (goes .count) (word-positive words1983 a h, word-fits words1983 a h (goes .small))
+  word-size = taken-size z (leftAt s used z) (e .taken)
 
   pub found-over : 1 ≤ u → w ≡ 0 → used < 2 ^ 32 → Finds s used z (ratioIn u) (ratioIn v) used
   found-over k o =
@@ -122,6 +86,5 @@ module _ {s : Bits} {used : ℕ} {z : Bool} {u v a n w : ℕ} (e : Makes s used 
       let c : Finds s (used + n) (not z) x (ratioIn u) r = rw m at f in
       record { number = rw (l, o, ← goes .count) (c .number); low = rw l (c .low) }
 
--- no turned word begins past the end
 pub makes-within : {s : Bits} {used u v a n w : ℕ} → Makes s used true u v a n w → used < length s
 makes-within {s} {used} e = turned-within s used (goes e .going)

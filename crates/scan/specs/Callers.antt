@@ -1,13 +1,14 @@
 -- What a judgement tells a call that judges a text key first: its outcome where there is a fault, and else that the
 -- rest of its refusals decide.
-use mathlib.Core.Path.{_≡_, refl}
+use mathlib.Core.Path.{_≡_, refl, sym}
 use mathlib.Core.Bool.{Bool, true, false, cond}
-use mathlib.Core.List.{List}
+use mathlib.Core.List.{List, []}
 use Prim.Native.Nat.{ℕ, _-_, _≤_}
 use borrow.Author.Tests.{ltb-false}
-use lib.Dec.{eqb}
+use lib.Dec.{eqb, lit≤}
 use lib.ListN.{length}
 use Rattle.outcomes.specs.Outcomes.{Outcome, Refusal, refuses, called}
+use Rattle.outcomes.specs.Laws.{Clear, gives-clear}
 use Rattle.outcomes.specs.Refusals.{firstStrange, emptyKey, longKey, strangeKey, openKey, keyRefusals}
 use Rattle.scan.specs.declared.Fault.{Fault}
 use Rattle.scan.specs.declared.Fault.the-variants.{Empty, Long, Character, LastZero}
@@ -49,6 +50,12 @@ module _ (k : List ℕ) (more : List Refusal) (values before after : List ℕ) w
 
   pub told-key : Key ≡ judgement k → (length k ≤ 96) × (rest ≡ whole)
   told-key e = told Key e
+
+-- a key has none of the four faults
+pub judged-clear : (k : List ℕ) → Key ≡ judgement k → Clear (keyRefusals k [])
+judged-clear k e =
+    gives-clear (keyRefusals k []) [] [] [] (lit≤ tt, (lit≤ tt, (lit≤ tt, (lit≤ tt, tt)))) [] []
+    (sym (told-key k [] [] [] [] e .1)) .0
 
 -- the fault that a number stands for
 abbrev pub faultOf : ℕ → Fault

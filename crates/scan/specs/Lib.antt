@@ -1,5 +1,6 @@
 pub mod Judging
 pub mod Taking
+pub mod Told
 pub mod Verdicts
 pub mod Runs
 pub mod Windows

@@ -1,0 +1,129 @@
+// Stepping through a text key, a quotient at a time. Between steps a caller keeps the key and its place.
+use blocks::Block;
+use scan::Fault;
+use scan::Judged;
+use scan::Kind;
+use scan::Place;
+use scan::Taken;
+ghost use mathlib.Core.Bool.{not};
+ghost use mathlib.Core.List.{[]};
+ghost use mathlib.Core.Path.{_≡_};
+ghost use lib.ListN.{drop};
+ghost use Rattle.bits.specs.Texts.{bitsOfText};
+ghost use Rattle.blocks.specs.Blocks.{blockOf};
+ghost use Rattle.outcomes.specs.Outcomes.{leaves};
+ghost use Rattle.outcomes.specs.Stepping.{startText, stepText};
+ghost use Rattle.scan.specs.Taking.{isTurned};
+ghost use Rattle.step.specs.Answers.{startedAs, metAs, placeAs};
+
+pub enum Started {
+    At { place: Place },
+    Faulty(Fault),
+}
+
+// What a step meets.
+pub enum Met {
+    Quotient { value: u32 },
+    End,
+    Faulty(Fault),
+    WrongPlace,
+    OutOfRange,
+}
+
+// What a step meets, and the place after it; at the end and where the step is refused that is the place handed in.
+pub struct Stepped {
+    pub met: Met,
+    pub place: Place,
+}
+
+// The place after the first character of a key.
+pub fn start(k: &[u8]) -> Started
+    ensures { λ r. ⌜ leaves (startedAs r) [] ≡ startText (now (k .entry)) ⌝ }
+{
+    match scan::judge(k) {
+        Judged::Faulty { fault, at: _ } => Started::Faulty(fault),
+        Judged::Key => {
+            if k[0] == 49 {
+                return Started::At {
+                    place: Place {
+                        used: 1,
+                        due: Kind::Word,
+                    },
+                };
+            }
+            Started::At {
+                place: Place {
+                    used: 1,
+                    due: Kind::Turned,
+                },
+            }
+        }
+    }
+}
+
+// The other kind.
+fn other(due: Kind) -> Kind
+    ensures { λ r. ⌜ isTurned r ≡ not (isTurned due) ⌝ }
+{
+    match due {
+        Kind::Word => Kind::Turned,
+        Kind::Turned => Kind::Word,
+    }
+}
+
+// What is left of a key after the characters used.
+fn rest_of(k: &[u8], used: usize) -> Block
+    ensures { λ r. ⌜ r ≡ blockOf (drop used (bitsOfText (now (k .entry)))) ⌝ }
+{
+    if used < k.len() {
+        return load::load_text(&k[used..]);
+    }
+    Block { high: 0, low: 0 }
+}
+
+// The word due at a place of a key. Only what is left of the key there is loaded.
+pub fn step(k: &[u8], place: Place) -> Stepped
+    ensures { λ r.
+        ⌜ leaves (metAs (r .met)) (placeAs (r .place))
+        ≡ stepText (now (k .entry)) (place .used) (isTurned (place .due)) ⌝ }
+{
+    let used = place.used;
+    let due = place.due;
+    match scan::judge(k) {
+        Judged::Faulty { fault, at: _ } => Stepped {
+            met: Met::Faulty(fault),
+            place,
+        },
+        Judged::Key => {
+            if used == 0 {
+                return Stepped {
+                    met: Met::WrongPlace,
+                    place,
+                };
+            }
+            if 160 < used {
+                return Stepped {
+                    met: Met::WrongPlace,
+                    place,
+                };
+            }
+            match scan::take(rest_of(k, used), Place { used: 0, due }) {
+                Taken::Quotient { value, characters } => Stepped {
+                    met: Met::Quotient { value },
+                    place: Place {
+                        used: used + characters,
+                        due: other(due),
+                    },
+                },
+                Taken::Long => Stepped {
+                    met: Met::OutOfRange,
+                    place,
+                },
+                Taken::End => Stepped {
+                    met: Met::End,
+                    place,
+                },
+            }
+        }
+    }
+}
