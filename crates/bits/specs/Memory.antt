@@ -1,16 +1,24 @@
 -- Lent memory: a part that is lent and comes back, and text at the front.
 use mathlib.Core.Path.{_≡_}
 use mathlib.Core.List.{List, _++_, append-assoc, append-nil}
-use Prim.Native.Nat.{ℕ, _-_, _≤_}
+use Prim.Native.Nat.{ℕ, _+_, _-_, _≤_, _<_}
 use native.Mathlib.Nat.{zero-add}
+use native.Mathlib.Numerals.{add-one}
 use native.Mathlib.Omega.{arith}
-use lib.ListN.{length, take, drop, length-append, length-drop, drop-of-length-le}
-use lib.Seq.{take-all, take-at, drop-at, drop-drop, sets, sets-eq}
+use lib.ListN.{length, getD, take, drop, set, length-append, length-drop, drop-of-length-le}
+use lib.Seq.{length-take-le, take-all, take-at, drop-at, drop-drop, sets, sets-eq, paste-suc}
 use Rattle.bits.specs.Texts.{inFront}
 
 -- stores one after the other, from the front on
 pub stored-front : (t m : List ℕ) → length t ≤ length m → sets m 0 t ≡ inFront t m
 stored-front t m h = rw zero-add at (sets-eq t m 0 (omega arith))
+
+-- one more character of k stored behind those before it
+pub stored-more : (k m : List ℕ) (i d : ℕ) → i < length k → i < length m
+    → set (inFront (take i k) m) i (getD k i d) ≡ inFront (take (i + 1) k) m
+stored-more k m i d h l =
+    rw (length-take-le i k (omega arith), length-take-le (i + 1) k (omega arith), add-one)
+    (rw (zero-add, zero-add) at (paste-suc m 0 k i d (rw zero-add l) h))
 
 -- text behind text
 pub front-more : (t u m : List ℕ) (n : ℕ) → length t ≡ n

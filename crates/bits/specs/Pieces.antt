@@ -16,7 +16,12 @@ use Rattle.bits.specs.Binary.{digitOf, numberOf, firstBits, digitsIn}
 use Rattle.bits.specs.Order.{same-append}
 use Rattle.bits.specs.Numbers.{number-from, number-lt}
 
--- what is left out is left out of a map too
+-- what is taken, or left out, is taken or left out of a map too
+pub take-map : {A B : Type 0} (f : A → B) (n : ℕ) (l : List A) → take n (map f l) ≡ map f (take n l)
+take-map f zero l = refl
+take-map f (suc n) [] = refl
+take-map {B = B} f (suc n) (a ∷ l) = ap {B = List B} (λ r. f a ∷ r) (take-map f n l)
+
 pub drop-map : {A B : Type 0} (f : A → B) (n : ℕ) (l : List A) → drop n (map f l) ≡ map f (drop n l)
 drop-map f zero l = refl
 drop-map f (suc n) [] = refl

@@ -5,7 +5,7 @@ use mathlib.Core.Logic.{_⊎_, inl, inr}
 use mathlib.Core.List.{[], _∷_, _++_}
 use Prim.Native.Nat.{zero, suc, _≤_, suc-le-suc}
 use native.Mathlib.Omega.{arith}
-use lib.ListN.{length, take}
+use lib.ListN.{length, take, length-append}
 use Rattle.bits.specs.Strings.{Bits, Same, _≺_, trimmed, behindZero, closed}
 use Rattle.bits.specs.Order.{same-append, before-same}
 
@@ -13,6 +13,12 @@ same-behind-zero : (s : Bits) → Same false (behindZero s) (false ∷ s)
 same-behind-zero [] zero = refl
 same-behind-zero [] (suc i) = refl
 same-behind-zero (b ∷ s) i = refl
+
+-- a zero at the end changes nothing
+pub same-zero : (s : Bits) → Same false (s ++ (false ∷ [])) s
+same-zero [] zero = refl
+same-zero [] (suc i) = refl
+same-zero (b ∷ s) i = same-append false (b ∷ []) (s ++ (false ∷ [])) s (same-zero s) i
 
 pub same-trimmed : (s : Bits) → Same false (trimmed s) s
 same-trimmed [] i = refl
@@ -88,6 +94,16 @@ pub closed-equal : (s t : Bits) → 1 ≤ length s → 1 ≤ length t → Same f
 closed-equal [] t h k e = absurd (omega arith)
 closed-equal (b ∷ s) [] h k e = absurd (omega arith)
 closed-equal (b ∷ s) (c ∷ t) h k e = λ i. e 0 i ∷ trimmed-same s t (λ j. e (suc j)) i
+
+-- a string of at most one character stays
+pub closed-short : (s : Bits) → length s ≤ 1 → closed s ≡ s
+closed-short [] h = refl
+closed-short (b ∷ []) h = refl
+closed-short (b ∷ c ∷ s) h = absurd (omega arith)
+
+-- a zero behind others is dropped
+pub closed-zero : (s : Bits) → 1 ≤ length s → closed (s ++ (false ∷ [])) ≡ closed s
+closed-zero s h = closed-equal (s ++ (false ∷ [])) s (rw length-append (omega arith)) h (same-zero s)
 
 behind-zero-take : (r s : Bits) → r ≡ take (length r) s → behindZero r ≡ take (length (behindZero r)) (false ∷ s)
 behind-zero-take [] s e = refl

@@ -1,7 +1,6 @@
 -- What the earlier of two lent keys is: one of the two references themselves, or an empty part of the first. The ghost
 -- name of that part is a new one, of which nothing is known; its address and its characters are known.
 use mathlib.Core.Path.{_≡_, refl, sym, _∙_, ap}
-use mathlib.Core.Bool.{true, false}
 use mathlib.Core.Logic.{_⊎_, inl, inr}
 use mathlib.Core.List.{List, [], _∷_}
 use Prim.Native.Nat.{ℕ, _≤_}
@@ -11,9 +10,10 @@ use lib.Dec.{lit≤}
 use lib.ListN.{getD}
 use Rattle.bits.specs.Strings.{Bits}
 use Rattle.bits.specs.Texts.{bitsOfText}
-use Rattle.outcomes.specs.Outcomes.{Outcome, Answer, Refusal, leaves, gives, called}
+use Rattle.outcomes.specs.Outcomes.{Outcome, Answer, leaves, gives}
 use Rattle.outcomes.specs.Comparing.{before, same, after, standing, compareText}
-use Rattle.outcomes.specs.Laws.{Numbered}
+use Rattle.outcomes.specs.Laws.{given-or-refused}
+use Rattle.outcomes.specs.Orders.{Says, says-before, says-same, says-after, says-standing}
 use Rattle.outcomes.specs.Refusals.{keyRefusals}
 
 -- r is handed back for j and k. Where comparing refuses, r has the address of j and no character.
@@ -56,47 +56,25 @@ module _ (j k : RefT (List ℕ)) (a : Answer) (told : leaves a [] ≡ compareTex
     refused = λ n. (refl, refl);
   }
 
--- two strings stand in one of three ways
-one-standing : (s t : Bits) → (standing s t ≡ before) ⊎ ((standing s t ≡ same) ⊎ (standing s t ≡ after))
-unfolding standing
-one-standing [] [] = inr (inl refl)
-one-standing [] (true ∷ t) = inl refl
-one-standing [] (false ∷ t) = one-standing [] t
-one-standing (true ∷ s) [] = inr (inr refl)
-one-standing (false ∷ s) [] = one-standing s []
-one-standing (false ∷ s) (false ∷ t) = one-standing s t
-one-standing (false ∷ s) (true ∷ t) = inl refl
-one-standing (true ∷ s) (false ∷ t) = inr (inr refl)
-one-standing (true ∷ s) (true ∷ t) = one-standing s t
-
--- a call gives its values or refuses
-given-or-refused : (order : List Refusal) (values : List ℕ) → Numbered order
-    → (called order values [] [] ≡ gives values []) ⊎ ((called order values [] []) .refusal ≡ 0 → ⊥)
-given-or-refused [] v h = inl refl
-given-or-refused ((n, true) ∷ l) v (h, r) = inr (λ e. omega (arith, e))
-given-or-refused ((n, false) ∷ l) v (h, r) = given-or-refused l v r
-
 compared : (j k : List ℕ)
     → (compareText j k ≡ gives (standing (bitsOfText j) (bitsOfText k) ∷ []) []) ⊎ ((compareText j k) .refusal ≡ 0 → ⊥)
 unfolding compareText
 compared j k =
-    given-or-refused (keyRefusals j (keyRefusals k [])) (standing (bitsOfText j) (bitsOfText k) ∷ [])
+    given-or-refused (keyRefusals j (keyRefusals k [])) (standing (bitsOfText j) (bitsOfText k) ∷ []) [] []
     (lit≤ tt, (lit≤ tt, (lit≤ tt, (lit≤ tt, (lit≤ tt, (lit≤ tt, (lit≤ tt, (lit≤ tt, tt))))))))
 
 -- the contract leaves one result: one reference or, where comparing refuses, one address and no character
 pub earlier-unique : (j k r s : RefT (List ℕ)) → Earlier j k r → Earlier j k s
     → (r ≡ s) ⊎ (((compareText (now j) (now k)) .refusal ≡ 0 → ⊥) × ((r .ptr ≡ s .ptr) × (now r ≡ now s)))
-earlier-unique j k r s p q =
-    by-outcome _ (compared (now j) (now k)) (one-standing (bitsOfText (now j)) (bitsOfText (now k)))
+earlier-unique j k r s p q = by-outcome _ (compared (now j) (now k)) (says-standing _ _)
   where
     o : Outcome
     o = compareText (now j) (now k)
 
-    by-outcome : (n : ℕ) → (o ≡ gives (n ∷ []) []) ⊎ (o .refusal ≡ 0 → ⊥)
-        → (n ≡ before) ⊎ ((n ≡ same) ⊎ (n ≡ after))
+    by-outcome : (n : ℕ) {x y : Bits} → (o ≡ gives (n ∷ []) []) ⊎ (o .refusal ≡ 0 → ⊥) → Says x y n
         → (r ≡ s) ⊎ ((o .refusal ≡ 0 → ⊥) × ((r .ptr ≡ s .ptr) × (now r ≡ now s)))
     by-outcome n (inr h) x =
         inr (h, (p .refused h .0 ∙ sym (q .refused h .0), p .refused h .1 ∙ sym (q .refused h .1)))
-    by-outcome n (inl e) (inl b) = inl (p .before (rw b at e) ∙ sym (q .before (rw b at e)))
-    by-outcome n (inl e) (inr (inl b)) = inl (p .same (rw b at e) ∙ sym (q .same (rw b at e)))
-    by-outcome n (inl e) (inr (inr b)) = inl (p .after (rw b at e) ∙ sym (q .after (rw b at e)))
+    by-outcome n (inl e) (says-before b h) = inl (p .before (rw b at e) ∙ sym (q .before (rw b at e)))
+    by-outcome n (inl e) (says-same b h) = inl (p .same (rw b at e) ∙ sym (q .same (rw b at e)))
+    by-outcome n (inl e) (says-after b h) = inl (p .after (rw b at e) ∙ sym (q .after (rw b at e)))

@@ -35,7 +35,8 @@ pub record Refuses (o : Outcome) (order : List Refusal) (lent : List ℕ) : Type
 -- Demand 1. Every call ends, as each proved function does, and checks its input itself: here is each order of refusals.
 pub record Checked : Type 0 where
   pub writing-text : (p q : ℕ) (m : List ℕ) → Refuses (writeText p q m) (zeroDenominator q ∷ shortBuffer 96 m ∷ []) m
-  pub writing-column : (p q : ℕ) (m : List ℕ) → Refuses (writeColumn p q m) (zeroDenominator q ∷ shortBuffer 12 m ∷ []) m
+  pub writing-column : (p q : ℕ) (m : List ℕ)
+      → Refuses (writeColumn p q m) (zeroDenominator q ∷ shortBuffer 12 m ∷ []) m
   pub reading-text : (k : List ℕ)
       → Refuses (readText k) (keyRefusals k (outOfRange (valueOfKey words1983 (bitsOfText k)) ∷ [])) []
   pub reading-column : (c : List ℕ)
@@ -44,7 +45,8 @@ pub record Checked : Type 0 where
   pub packing : (k m : List ℕ) → Refuses (textToColumn k m) (keyRefusals k (shortBuffer 12 m ∷ [])) m
   pub reducing : (p q : ℕ) → Refuses (reduce p q) (zeroDenominator q ∷ []) []
   pub comparing : (j k : List ℕ) → Refuses (compareText j k) (keyRefusals j (keyRefusals k [])) []
-  pub cutting : (k m : List ℕ) (n : ℕ) → Refuses (cutText k n m) (keyRefusals k (outside 96 n ∷ shortBuffer 96 m ∷ [])) m
+  pub cutting : (k m : List ℕ) (n : ℕ)
+      → Refuses (cutText k n m) (keyRefusals k (outside 96 n ∷ shortBuffer 96 m ∷ [])) m
   pub starting : (k : List ℕ) → Refuses (startText k) (keyRefusals k []) []
   -- What a step leaves is the place that it hands back.
   pub stepping : (k : List ℕ) (u : ℕ) (z : Bool) → let a = quotientAt (bitsOfText k) u z in

@@ -18,8 +18,7 @@ use Rattle.keys.specs.Size.{limit, key-size, count-size}
 use Rattle.keys.specs.Cutting.{cut-places}
 use Rattle.keys.specs.Distance.{cut-distance}
 use Rattle.outcomes.specs.Outcomes.{Outcome, Refusal, firstOf, called}
-use Rattle.outcomes.specs.Refusals.{outside, longQuotient}
-use Rattle.outcomes.specs.Refusals.{zeroDenominator, shortBuffer, keyRefusals, outOfRange, wrongColumn}
+use Rattle.outcomes.specs.Refusals.{zeroDenominator, keyRefusals}
 use Rattle.outcomes.specs.Laws.{called-number, called-kept, Clear, Numbered, clear-first}
 use Rattle.outcomes.specs.Writing.{counts, writeText, writeColumn}
 use Rattle.outcomes.specs.Reading.{terms, readText, readColumn, reduce}
@@ -46,35 +45,19 @@ refuses-first order values before after = record {
 }
 
 checked : Checked
-unfolding writeText writeColumn readText readColumn columnToText textToColumn reduce compareText cutText startText stepText
+unfolding writeText writeColumn readText readColumn columnToText textToColumn compareText cutText startText stepText
 checked = record {
-  writing-text = λ p q m.
-      refuses-first (zeroDenominator q ∷ shortBuffer 96 m ∷ []) (counts p q) m
-      (inFront (textOf (keyOf words1983 p q)) m);
-  writing-column = λ p q m.
-      refuses-first (zeroDenominator q ∷ shortBuffer 12 m ∷ []) (counts p q) m
-      (inFront (columnOf (keyOf words1983 p q)) m);
-  reading-text = λ k.
-      let v = valueOfKey words1983 (bitsOfText k) in
-      refuses-first (keyRefusals k (outOfRange v ∷ [])) (terms v) [] [];
-  reading-column = λ c.
-      let v = valueOfKey words1983 (bitsOfBytes c) in
-      refuses-first (wrongColumn c ∷ outOfRange v ∷ []) (terms v) [] [];
-  unpacking = λ c m.
-      let k = closed (bitsOfBytes c) in
-      refuses-first (wrongColumn c ∷ shortBuffer 96 m ∷ []) (length k ∷ []) m (inFront (textOf k) m);
-  packing = λ k m.
-      refuses-first (keyRefusals k (shortBuffer 12 m ∷ [])) [] m (inFront (columnOf (bitsOfText k)) m);
-  reducing = λ p q. refuses-first (zeroDenominator q ∷ []) (terms (lowestTerms p q)) [] [];
-  comparing = λ j k.
-      refuses-first (keyRefusals j (keyRefusals k [])) (standing (bitsOfText j) (bitsOfText k) ∷ []) [] [];
-  cutting = λ k m n.
-      let c = cutTo n (bitsOfText k) in
-      refuses-first (keyRefusals k (outside 96 n ∷ shortBuffer 96 m ∷ [])) (length c ∷ []) m (inFront (textOf c) m);
-  starting = λ k. refuses-first (keyRefusals k []) (placeOf 1 (not (getD (bitsOfText k) 0 false))) [] [];
-  stepping = λ k u z.
-      let a = quotientAt (bitsOfText k) u z in
-      refuses-first (keyRefusals k (outside 160 u ∷ longQuotient a ∷ [])) (found a) (placeOf u z) (placeAfter a u z);
+  writing-text = λ p q m. refuses-first _ (counts p q) _ (inFront (textOf (keyOf words1983 p q)) m);
+  writing-column = λ p q m. refuses-first _ (counts p q) _ (inFront (columnOf (keyOf words1983 p q)) m);
+  reading-text = λ k. refuses-first _ (terms (valueOfKey words1983 (bitsOfText k))) _ [];
+  reading-column = λ c. refuses-first _ (terms (valueOfKey words1983 (bitsOfBytes c))) _ [];
+  unpacking = λ c m. let k = closed (bitsOfBytes c) in refuses-first _ (length k ∷ []) _ (inFront (textOf k) m);
+  packing = λ k m. refuses-first _ [] _ (inFront (columnOf (bitsOfText k)) m);
+  reducing = λ p q. unfold reduce in refuses-first (zeroDenominator q ∷ []) (terms (lowestTerms p q)) [] [];
+  comparing = λ j k. refuses-first _ (standing (bitsOfText j) (bitsOfText k) ∷ []) _ [];
+  cutting = λ k m n. let c = cutTo n (bitsOfText k) in refuses-first _ (length c ∷ []) _ (inFront (textOf c) m);
+  starting = λ k. refuses-first _ (placeOf 1 (not (getD (bitsOfText k) 0 false))) _ [];
+  stepping = λ k u z. let a = quotientAt (bitsOfText k) u z in refuses-first _ (found a) _ (placeAfter a u z);
 }
 
 written : (p q : ℕ) → 1 ≤ q → p ≤ limit → q ≤ limit → Written p q (keyOf words1983 p q)

@@ -1,16 +1,27 @@
 -- Any two outcomes that the contract of a call allows are identical, answer and memory. A contract says that the
 -- answer's number and values, and the memory at exit, are the call's outcome; so one outcome has to stand for one
--- answer. (The contract of a function without refusals is an equation for its result already.)
+-- answer. (The contract of a function without refusals is an equation for its result already; the earlier of two, which
+-- gives no number, has its own theorem beside its contract, `compare`, file Earlier.)
+use mathlib.Core.Path.{_≡_, sym, _∙_, ap}
+use mathlib.Core.Bool.{Bool}
 use mathlib.Core.List.{List}
 use Prim.Native.Nat.{ℕ}
+use Rattle.outcomes.specs.Outcomes.{leaves}
 use Rattle.outcomes.specs.Laws.{Determined, determined}
 use Rattle.outcomes.specs.Writing.{writeText, writeColumn}
 use Rattle.outcomes.specs.Reading.{readText, readColumn, reduce}
 use Rattle.outcomes.specs.Packing.{columnToText, textToColumn}
+use Rattle.outcomes.specs.Comparing.{compareText}
+use Rattle.outcomes.specs.Cutting.{cutText}
+use Rattle.outcomes.specs.Stepping.{startText, stepText}
 use Rattle.reduce.specs.Answers.{reducedAs, reducedOf, reduced-told}
 use Rattle.write.specs.Answers.{writtenAs, writtenOf, written-told}
 use Rattle.read.specs.Answers.{textReadAs, textReadOf, text-read-told, columnReadAs, columnReadOf, column-read-told}
 use Rattle.pack.specs.Answers.{unpackedAs, unpackedOf, unpacked-told, packedAs, packedOf, packed-told}
+use Rattle.step.specs.declared.Stepped.{Stepped}
+use Rattle.compare.specs.Answers.{comparedAs, comparedOf, compared-told}
+use Rattle.cut.specs.Answers.{shortenedAs, shortenedOf, shortened-told}
+use Rattle.step.specs.Answers.{startedAs, startedOf, started-told, metAs, metOf, met-told, placeAs, placeIn, place-told}
 
 pub write-text-unique : (p q : ℕ) (m : List ℕ) → Determined writtenAs (writeText p q m)
 write-text-unique p q m = determined writtenAs writtenOf written-told (writeText p q m)
@@ -32,3 +43,22 @@ text-to-column-unique k m = determined packedAs packedOf packed-told (textToColu
 
 pub lowest-terms-unique : (p q : ℕ) → Determined reducedAs (reduce p q)
 lowest-terms-unique p q = determined reducedAs reducedOf reduced-told (reduce p q)
+
+pub compare-unique : (j k : List ℕ) → Determined comparedAs (compareText j k)
+compare-unique j k = determined comparedAs comparedOf compared-told (compareText j k)
+
+pub cut-unique : (k m : List ℕ) (n : ℕ) → Determined shortenedAs (cutText k n m)
+cut-unique k m n = determined shortenedAs shortenedOf shortened-told (cutText k n m)
+
+pub start-unique : (k : List ℕ) → Determined startedAs (startText k)
+start-unique k = determined startedAs startedOf started-told (startText k)
+
+-- what a step leaves is the place handed back, as numbers, which tell the place
+pub step-unique : (k : List ℕ) (used : ℕ) (z : Bool) (r s : Stepped)
+    → leaves (metAs (r .met)) (placeAs (r .place)) ≡ stepText k used z
+    → leaves (metAs (s .met)) (placeAs (s .place)) ≡ stepText k used z → r ≡ s
+step-unique k used z r s e f =
+    let one : Determined metAs (stepText k used z) = determined metAs metOf met-told (stepText k used z) in
+    let (met, numbers) = one (r .met) (s .met) (placeAs (r .place)) (placeAs (s .place)) e f in
+    let place : r .place ≡ s .place = sym (place-told (r .place)) ∙ ap placeIn numbers ∙ place-told (s .place) in
+    λ i. record { met = met i; place = place i }

@@ -1,6 +1,7 @@
 -- What holds of every call, whatever its order of refusals.
 use mathlib.Core.Path.{_≡_, refl, sym, _∙_, ap}
 use mathlib.Core.Bool.{true, false}
+use mathlib.Core.Logic.{_⊎_, inl, inr}
 use mathlib.Core.List.{List, [], _∷_}
 use Prim.Native.Nat.{ℕ, _≤_}
 use native.Mathlib.Omega.{arith}
@@ -53,6 +54,14 @@ gives-clear order values before after k v m e =
     let c = clear-first order k none in
     let same : gives values after ≡ gives v m = sym (clear-called order values before after c) ∙ e in
     (c, (ap (λ (o : Outcome). o .values) same, ap (λ (o : Outcome). o .memory) same))
+
+-- a call gives its values or refuses
+pub given-or-refused : (order : List Refusal) (values before after : List ℕ) → Numbered order
+    → (called order values before after ≡ gives values after)
+    ⊎ ((called order values before after) .refusal ≡ 0 → ⊥)
+given-or-refused [] v b a h = inl refl
+given-or-refused ((n, true) ∷ l) v b a (h, r) = inr (λ e. omega (arith, e))
+given-or-refused ((n, false) ∷ l) v b a (h, r) = given-or-refused l v b a r
 
 -- one outcome stands for one answer of a call's enum and one memory, where the number and the values tell the answer
 abbrev pub Determined : {A : Type 0} → (A → Answer) → Outcome → Type 0

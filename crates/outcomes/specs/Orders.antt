@@ -22,7 +22,7 @@ use Rattle.outcomes.specs.TextKeys.{clear-canonical}
 use Rattle.outcomes.specs.RoundTrips.{judged-first}
 
 -- n says how s and t stand
-data Says (s t : Bits) (n : ℕ) : Type 0 where
+pub data Says (s t : Bits) (n : ℕ) : Type 0 where
   says-before : n ≡ before → s ≺ t → Says s t n
   says-same : n ≡ same → Same false s t → Says s t n
   says-after : n ≡ after → t ≺ s → Says s t n
@@ -40,7 +40,7 @@ says-more b {s} {t} {u} {v} e f (says-after m h) =
 zero-first : Same false (false ∷ []) []
 zero-first i = sym (same-trimmed (false ∷ []) i)
 
-says-standing : (s t : Bits) → Says s t (standing s t)
+pub says-standing : (s t : Bits) → Says s t (standing s t)
 unfolding standing
 says-standing [] [] = says-same refl (λ i. refl)
 says-standing [] (true ∷ t) = says-before refl (before-first false [] (true ∷ t) refl refl)

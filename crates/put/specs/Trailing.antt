@@ -3,7 +3,7 @@ use mathlib.Core.Path.{_≡_, refl, sym, _∙_, ap, ap₂}
 use mathlib.Core.Bool.{Bool, true, false}
 use mathlib.Core.Logic.{inl, inr}
 use mathlib.Core.List.{[], _∷_, _++_, append-nil, append-assoc}
-use Prim.Native.Nat.{ℕ, zero, suc, _+_, _*_, _/_, _%_, _^_, _-_, _<_}
+use Prim.Native.Nat.{ℕ, suc, _+_, _*_, _/_, _%_, _^_, _-_, _<_}
 use native.Mathlib.Omega.{arith}
 use native.Mathlib.Numerals.{add-one}
 use lib.Bits.{bitOr, or-zero-r, or-block, or-shifted-r}
@@ -13,7 +13,7 @@ use lib.ListN.{length, getD, length-append}
 use Rattle.bits.specs.Strings.{Bits, Same, behindZero, trimmed, closed}
 use Rattle.bits.specs.Binary.{numberOf, digitsIn}
 use Rattle.bits.specs.Order.{same-append}
-use Rattle.bits.specs.Trim.{Tidy, same-trimmed, trimmed-same, tidy-trimmed, trimmed-ended}
+use Rattle.bits.specs.Trim.{Tidy, same-zero, same-trimmed, trimmed-same, tidy-trimmed, trimmed-ended}
 use Rattle.bits.specs.Numbers.{number-from, number-append, number-lt}
 use Rattle.bits.specs.Pieces.{length-digits, number-of-digits}
 use Rattle.blocks.specs.declared.Block.{Block}
@@ -22,11 +22,6 @@ use Rattle.blocks.specs.Blocks.{bitsOfBlock}
 -- what is left of a string and the zeros counted make its length
 abbrev Counted : Bits → Type 0
 Counted s = length (trimmed s) + trailingZeros (length s) (numberOf s) ≡ length s
-
-same-zero : (s : Bits) → Same false (s ++ (false ∷ [])) s
-same-zero [] zero = refl
-same-zero [] (suc i) = refl
-same-zero (b ∷ s) i = same-append false (b ∷ []) (s ++ (false ∷ [])) s (same-zero s) i
 
 -- one more character at the end, the lowest digit: a 1 leaves nothing to drop, a 0 is dropped and counted
 trailing-odd : (k v : ℕ) → trailingZeros (k + 1) (2 * v + 1) ≡ 0
