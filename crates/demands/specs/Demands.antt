@@ -2,7 +2,7 @@
 -- `keys`, file Keys; what each call gives and leaves is in `outcomes`. The term that meets the demands is in Met.
 use mathlib.Core.Path.{_≡_}
 use mathlib.Core.Bool.{Bool}
-use mathlib.Core.Logic.{_⊎_}
+use mathlib.Core.Logic.{_⊎_, _↔_}
 use mathlib.Core.List.{List, [], _∷_}
 use Prim.Native.Nat.{ℕ, _*_, _-_, _^_, _≤_, _<_}
 use lib.ListN.{length, replicate}
@@ -34,22 +34,23 @@ pub record Refuses (o : Outcome) (order : List Refusal) (lent : List ℕ) : Type
 
 -- Demand 1. Every call ends, as each proved function does, and checks its input itself: here is each order of refusals.
 pub record Checked : Type 0 where
-  pub writing-text : (p q : ℕ) (m : List ℕ) → Refuses (writeText p q m) (zeroDenominator q ∷ shortBuffer 96 m ∷ []) m
-  pub writing-column : (p q : ℕ) (m : List ℕ)
-      → Refuses (writeColumn p q m) (zeroDenominator q ∷ shortBuffer 12 m ∷ []) m
-  pub reading-text : (k : List ℕ)
+  -- Numbers 3 to 6 are for exactly what isn't the text of a canonical key of at most 96 characters.
+  pub keys : (k : List ℕ) → (firstOf (keyRefusals k []) ≡ 0)
+      ↔ (Canonical (bitsOfText k) × ((length k ≤ 96) × (textOf (bitsOfText k) ≡ k)))
+  pub write-text : (p q : ℕ) (m : List ℕ) → Refuses (writeText p q m) (zeroDenominator q ∷ shortBuffer 96 m ∷ []) m
+  pub write-column : (p q : ℕ) (m : List ℕ) → Refuses (writeColumn p q m) (zeroDenominator q ∷ shortBuffer 12 m ∷ []) m
+  pub read-text : (k : List ℕ)
       → Refuses (readText k) (keyRefusals k (outOfRange (valueOfKey words1983 (bitsOfText k)) ∷ [])) []
-  pub reading-column : (c : List ℕ)
+  pub read-column : (c : List ℕ)
       → Refuses (readColumn c) (wrongColumn c ∷ outOfRange (valueOfKey words1983 (bitsOfBytes c)) ∷ []) []
-  pub unpacking : (c m : List ℕ) → Refuses (columnToText c m) (wrongColumn c ∷ shortBuffer 96 m ∷ []) m
-  pub packing : (k m : List ℕ) → Refuses (textToColumn k m) (keyRefusals k (shortBuffer 12 m ∷ [])) m
-  pub reducing : (p q : ℕ) → Refuses (reduce p q) (zeroDenominator q ∷ []) []
-  pub comparing : (j k : List ℕ) → Refuses (compareText j k) (keyRefusals j (keyRefusals k [])) []
-  pub cutting : (k m : List ℕ) (n : ℕ)
-      → Refuses (cutText k n m) (keyRefusals k (outside 96 n ∷ shortBuffer 96 m ∷ [])) m
-  pub starting : (k : List ℕ) → Refuses (startText k) (keyRefusals k []) []
+  pub column-to-text : (c m : List ℕ) → Refuses (columnToText c m) (wrongColumn c ∷ shortBuffer 96 m ∷ []) m
+  pub text-to-column : (k m : List ℕ) → Refuses (textToColumn k m) (keyRefusals k (shortBuffer 12 m ∷ [])) m
+  pub lowest-terms : (p q : ℕ) → Refuses (reduce p q) (zeroDenominator q ∷ []) []
+  pub compare : (j k : List ℕ) → Refuses (compareText j k) (keyRefusals j (keyRefusals k [])) []
+  pub cut : (k m : List ℕ) (n : ℕ) → Refuses (cutText k n m) (keyRefusals k (outside 96 n ∷ shortBuffer 96 m ∷ [])) m
+  pub start : (k : List ℕ) → Refuses (startText k) (keyRefusals k []) []
   -- What a step leaves is the place that it hands back.
-  pub stepping : (k : List ℕ) (u : ℕ) (z : Bool) → let a = quotientAt (bitsOfText k) u z in
+  pub step : (k : List ℕ) (u : ℕ) (z : Bool) → let a = quotientAt (bitsOfText k) u z in
       Refuses (stepText k u z) (keyRefusals k (outside 160 u ∷ longQuotient a ∷ [])) (placeOf u z)
 
 -- Demand 2 on writing, k being the published key of p/q.
@@ -62,8 +63,7 @@ pub record Written (p q : ℕ) (k : Bits) : Type 0 where
       → writeColumn p q m ≡ gives (length k ∷ countOf (formOf p q) ∷ []) (inFront (columnOf k) m)
   pub sizes : (length k ≤ 96) × (countOf (formOf p q) ≤ 46)
   -- Reading it gives lowest terms.
-  pub back : readText (textOf k) ≡ gives (terms (lowestTerms p q)) []
-  pub column-back : readColumn (columnOf k) ≡ gives (terms (lowestTerms p q)) []
+  pub back : let r = gives (terms (lowestTerms p q)) [] in (readText (textOf k) ≡ r) × (readColumn (columnOf k) ≡ r)
 
 -- Demand 2. Of p/q with numerator and denominator of at most 32 bits, of text and column, and of keys over any family.
 pub record Faithful : Type 0 where

@@ -4,14 +4,14 @@ use mathlib.Core.Bool.{false, not}
 use mathlib.Core.List.{List, [], _∷_}
 use Prim.Native.Nat.{ℕ, _≤_}
 use lib.Dec.{lit≤}
-use lib.ListN.{length, getD}
+use lib.ListN.{length, getD, length-map}
 use Rattle.bits.specs.Binary.{bitsOfBytes}
 use Rattle.bits.specs.Texts.{textOf, bitsOfText, inFront}
 use Rattle.bits.specs.Strings.{closed}
 use Rattle.families.specs.Families.{Family}
 use Rattle.families.specs.Published.{words1983}
 use Rattle.fractions.specs.Fractions.{lowestTerms}
-use Rattle.keys.specs.Keys.{keyOf, valueOfKey, cutTo, columnOf}
+use Rattle.keys.specs.Keys.{keyOf, Canonical, valueOfKey, cutTo, columnOf}
 use Rattle.keys.specs.Back.{key-value, key-canonical, value-key, key-of-one}
 use Rattle.keys.specs.Order.{key-multiple, key-order, key-equal}
 use Rattle.keys.specs.Size.{limit, key-size, count-size}
@@ -19,7 +19,8 @@ use Rattle.keys.specs.Cutting.{cut-places}
 use Rattle.keys.specs.Distance.{cut-distance}
 use Rattle.outcomes.specs.Outcomes.{Outcome, Refusal, firstOf, called}
 use Rattle.outcomes.specs.Refusals.{zeroDenominator, keyRefusals}
-use Rattle.outcomes.specs.Laws.{called-number, called-kept, Clear, Numbered, clear-first}
+use Rattle.outcomes.specs.Laws.{called-number, called-kept, Clear, Numbered, clear-first, clear-number}
+use Rattle.outcomes.specs.TextKeys.{text-clear, clear-canonical}
 use Rattle.outcomes.specs.Writing.{counts, writeText, writeColumn}
 use Rattle.outcomes.specs.Reading.{terms, readText, readColumn, reduce}
 use Rattle.outcomes.specs.Packing.{columnToText, textToColumn}
@@ -44,20 +45,32 @@ refuses-first order values before after = record {
   kept = called-kept order values before after;
 }
 
+-- a key that is refused by no number has no fault
+judged : (k : List ℕ) (more : List Refusal) → Numbered more → firstOf (keyRefusals k more) ≡ 0
+    → Clear (keyRefusals k more)
+judged k more numbered = clear-first (keyRefusals k more) (lit≤ tt, (lit≤ tt, (lit≤ tt, (lit≤ tt, numbered))))
+
+-- and the text of a canonical key isn't refused
+accepted : (k : List ℕ) → Canonical (bitsOfText k) → length k ≤ 96 → textOf (bitsOfText k) ≡ k
+    → firstOf (keyRefusals k []) ≡ 0
+accepted k c h e =
+    rw e at (clear-number (keyRefusals (textOf (bitsOfText k)) []) (text-clear (bitsOfText k) c (rw length-map h)))
+
 checked : Checked
 unfolding writeText writeColumn readText readColumn columnToText textToColumn compareText cutText startText stepText
 checked = record {
-  writing-text = λ p q m. refuses-first _ (counts p q) _ (inFront (textOf (keyOf words1983 p q)) m);
-  writing-column = λ p q m. refuses-first _ (counts p q) _ (inFront (columnOf (keyOf words1983 p q)) m);
-  reading-text = λ k. refuses-first _ (terms (valueOfKey words1983 (bitsOfText k))) _ [];
-  reading-column = λ c. refuses-first _ (terms (valueOfKey words1983 (bitsOfBytes c))) _ [];
-  unpacking = λ c m. let k = closed (bitsOfBytes c) in refuses-first _ (length k ∷ []) _ (inFront (textOf k) m);
-  packing = λ k m. refuses-first _ [] _ (inFront (columnOf (bitsOfText k)) m);
-  reducing = λ p q. unfold reduce in refuses-first (zeroDenominator q ∷ []) (terms (lowestTerms p q)) [] [];
-  comparing = λ j k. refuses-first _ (standing (bitsOfText j) (bitsOfText k) ∷ []) _ [];
-  cutting = λ k m n. let c = cutTo n (bitsOfText k) in refuses-first _ (length c ∷ []) _ (inFront (textOf c) m);
-  starting = λ k. refuses-first _ (placeOf 1 (not (getD (bitsOfText k) 0 false))) _ [];
-  stepping = λ k u z. let a = quotientAt (bitsOfText k) u z in refuses-first _ (found a) _ (placeAfter a u z);
+  keys = λ k. (λ good. clear-canonical k (judged k [] tt good), λ (c, (h, e)). accepted k c h e);
+  write-text = λ p q m. refuses-first _ (counts p q) _ (inFront (textOf (keyOf words1983 p q)) m);
+  write-column = λ p q m. refuses-first _ (counts p q) _ (inFront (columnOf (keyOf words1983 p q)) m);
+  read-text = λ k. refuses-first _ (terms (valueOfKey words1983 (bitsOfText k))) _ [];
+  read-column = λ c. refuses-first _ (terms (valueOfKey words1983 (bitsOfBytes c))) _ [];
+  column-to-text = λ c m. let k = closed (bitsOfBytes c) in refuses-first _ (length k ∷ []) _ (inFront (textOf k) m);
+  text-to-column = λ k m. refuses-first _ [] _ (inFront (columnOf (bitsOfText k)) m);
+  lowest-terms = λ p q. unfold reduce in refuses-first (zeroDenominator q ∷ []) (terms (lowestTerms p q)) [] [];
+  compare = λ j k. refuses-first _ (standing (bitsOfText j) (bitsOfText k) ∷ []) _ [];
+  cut = λ k m n. let c = cutTo n (bitsOfText k) in refuses-first _ (length c ∷ []) _ (inFront (textOf c) m);
+  start = λ k. refuses-first _ (placeOf 1 (not (getD (bitsOfText k) 0 false))) _ [];
+  step = λ k u z. let a = quotientAt (bitsOfText k) u z in refuses-first _ (found a) _ (placeAfter a u z);
 }
 
 written : (p q : ℕ) → 1 ≤ q → p ≤ limit → q ≤ limit → Written p q (keyOf words1983 p q)
@@ -65,14 +78,8 @@ written p q positive small low = record {
   text = λ m h. text-written p q m positive h;
   column = λ m h. column-written p q m positive h;
   sizes = (key-size words1983 p q positive small low, count-size words1983 p q positive small low);
-  back = text-back p q positive small low;
-  column-back = column-back p q positive small low;
+  back = (text-back p q positive small low, column-back p q positive small low);
 }
-
--- a key that is refused by no number has no fault
-judged : (k : List ℕ) (more : List Refusal) → Numbered more → firstOf (keyRefusals k more) ≡ 0
-    → Clear (keyRefusals k more)
-judged k more numbered = clear-first (keyRefusals k more) (lit≤ tt, (lit≤ tt, (lit≤ tt, (lit≤ tt, numbered))))
 
 again : Again
 again = record {

@@ -45,6 +45,10 @@ clear-first [] k e = tt
 clear-first ((n, true) ∷ l) (k, r) e = absurd (omega (arith, e))
 clear-first ((n, false) ∷ l) (k, r) e = (refl, clear-first l r e)
 
+pub clear-number : (order : List Refusal) → Clear order → firstOf order ≡ 0
+clear-number [] c = refl
+clear-number ((n, here) ∷ l) (e, c) = rw e (clear-number l c)
+
 -- a call that gives something met no fault, and gives its values
 pub gives-clear : (order : List Refusal) (values before after : List ℕ) → Numbered order → (v m : List ℕ)
     → called order values before after ≡ gives v m → Clear order × ((values ≡ v) × (after ≡ m))
