@@ -16,6 +16,8 @@ ghost use Rattle.outcomes.specs.Stepping.{startText, stepText};
 ghost use Rattle.scan.specs.Taking.{isTurned};
 ghost use Rattle.step.specs.Answers.{startedAs, metAs, placeAs};
 
+pub mod reader;
+
 pub enum Started {
     At { place: Place },
     Faulty(Fault),
