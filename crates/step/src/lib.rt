@@ -83,6 +83,13 @@ fn rest_of(k: &[u8], used: usize) -> Block
     Block { high: 0, low: 0 }
 }
 
+// What is met where the place stays.
+fn stays(met: Met, place: Place) -> Stepped
+    ensures { λ r. ⌜ r ≡ record { met = met; place = place } ⌝ }
+{
+    Stepped { met, place }
+}
+
 // The word due at a place of a key. Only what is left of the key there is loaded.
 pub fn step(k: &[u8], place: Place) -> Stepped
     ensures { λ r.
@@ -92,22 +99,13 @@ pub fn step(k: &[u8], place: Place) -> Stepped
     let used = place.used;
     let due = place.due;
     match scan::judge(k) {
-        Judged::Faulty { fault, at: _ } => Stepped {
-            met: Met::Faulty(fault),
-            place,
-        },
+        Judged::Faulty { fault, at: _ } => stays(Met::Faulty(fault), place),
         Judged::Key => {
             if used == 0 {
-                return Stepped {
-                    met: Met::WrongPlace,
-                    place,
-                };
+                return stays(Met::WrongPlace, place);
             }
             if 160 < used {
-                return Stepped {
-                    met: Met::WrongPlace,
-                    place,
-                };
+                return stays(Met::WrongPlace, place);
             }
             match scan::take(rest_of(k, used), Place { used: 0, due }) {
                 Taken::Quotient { value, characters } => Stepped {
@@ -117,14 +115,8 @@ pub fn step(k: &[u8], place: Place) -> Stepped
                         due: other(due),
                     },
                 },
-                Taken::Long => Stepped {
-                    met: Met::OutOfRange,
-                    place,
-                },
-                Taken::End => Stepped {
-                    met: Met::End,
-                    place,
-                },
+                Taken::Long => stays(Met::OutOfRange, place),
+                Taken::End => stays(Met::End, place),
             }
         }
     }

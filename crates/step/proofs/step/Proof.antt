@@ -17,13 +17,14 @@ is-key c = sym (c .enum-told .given .1) ∙ c .before .before .judge .ensures
 
 returns-faulty : tie.Need-returns-3
 returns-faulty c =
-    step-faulty _ _ _ _ _ (sym (c .before .fault .given .1) ∙ c .before .before .before .judge .ensures)
+    let x = c .before .before in
+    rw (c .stays .ensures) (step-faulty _ _ _ _ _ (sym (x .fault .given .1) ∙ x .before .before .judge .ensures))
 
 returns-none : tie.Need-returns
-returns-none c = step-none _ _ _ (is-key (c .before)) (omega arith)
+returns-none c = rw (c .stays2 .ensures) (step-none _ _ _ (is-key (c .before .before)) (omega arith))
 
 returns-far : tie.Need-returns-2
-returns-far c = step-far _ _ _ (is-key (c .before .before)) (omega arith)
+returns-far c = rw (c .stays3 .ensures) (step-far _ _ _ (is-key (c .before .before .before)) (omega arith))
 
 taken-as : (c : tie.After-take) → let start = c .before .before .before .before .before .before .before .before in
     let used = start .args .place .used in
@@ -44,10 +45,14 @@ returns-quotient c =
     rw (c .other .ensures) (ap (takenAs _ _) (sym (x .value .given .1)) ∙ taken-as (x .before .before))
 
 returns-long : tie.Need-returns-5
-returns-long c = ap (takenAs _ _) (sym (c .enum-told2 .given .1)) ∙ taken-as (c .before .before)
+returns-long c =
+    let x = c .before in
+    rw (c .stays4 .ensures) (ap (takenAs _ _) (sym (x .enum-told2 .given .1)) ∙ taken-as (x .before .before))
 
 returns-end : tie.Need-returns-6
-returns-end c = ap (takenAs _ _) (sym (c .enum-told3 .given .1)) ∙ taken-as (c .before .before)
+returns-end c =
+    let x = c .before in
+    rw (c .stays5 .ensures) (ap (takenAs _ _) (sym (x .enum-told3 .given .1)) ∙ taken-as (x .before .before))
 
 pub step-spec : {M : Type 1} → statement M
 step-spec =
@@ -55,8 +60,11 @@ step-spec =
     (tie.spec
     (λ c κs. search needs)
     (λ c. search needs)
+    (λ c κs. search needs)
     (λ c. search needs)
+    (λ c κs. search needs)
     returns-none
+    (λ c κs. search needs)
     returns-far
     (λ c κs. search needs)
     (λ c κs. search needs)
@@ -64,7 +72,9 @@ step-spec =
     fits
     (λ c κs. search needs)
     (λ c. search needs)
+    (λ c κs. search needs)
     (λ c. search needs)
+    (λ c κs. search needs)
     returns-faulty
     returns-quotient
     returns-long
