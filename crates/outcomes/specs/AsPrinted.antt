@@ -79,8 +79,9 @@ text s = textOf (bitsOf s)
 
 -- comparing, both ways and with itself: 5/16, 19/44 and 22/7; range isn't looked at; of two bad keys the first decides
 compare-examples : compareText (text "001011001") (text "00111010011")
-    ∷ compareText (text "110100101") (text "001011001") ∷ compareText (text "01") (text "01") ∷ compareText (textOf (ones 33)) (textOf (ones 96))
-    ∷ compareText (text "10") [] ∷ compareText (text "1") (textOf (ones 97)) ∷ []
+    ∷ compareText (text "110100101") (text "001011001") ∷ compareText (text "01") (text "01")
+    ∷ compareText (textOf (ones 33)) (textOf (ones 96)) ∷ compareText (text "10") []
+    ∷ compareText (text "1") (textOf (ones 97)) ∷ []
     ≡ gives (before ∷ []) [] ∷ gives (after ∷ []) [] ∷ gives (same ∷ []) [] ∷ gives (before ∷ []) []
     ∷ refuses 6 1 [] ∷ refuses 4 1 [] ∷ []
 unfolding ones text compareText standing firstStrange bitsOf

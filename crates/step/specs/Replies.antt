@@ -1,6 +1,6 @@
 -- What starting and stepping answer, by what judging and taking gave; and the block of what is left of a key.
 use mathlib.Core.Path.{_≡_, refl, _∙_}
-use mathlib.Core.Bool.{Bool, false, not}
+use mathlib.Core.Bool.{Bool, true, false, not}
 use mathlib.Core.List.{List, [], _∷_}
 use Prim.Native.Nat.{ℕ, _+_, _-_, _≤_, _<_}
 use native.Mathlib.Omega.{arith}
@@ -42,11 +42,17 @@ module _ (k : List ℕ) where
   pub some-character : Key ≡ judgement k → 0 < length k
   some-character e = omega (arith, eqb-false (length k) 0 (judged-clear k e .0))
 
-  pub start-at : Key ≡ judgement k → (b : Bool) → eqb (getD k 0 0) 49 ≡ b → gives (placeOf 1 (not b)) [] ≡ startText k
+  start-at : Key ≡ judgement k → (b : Bool) → eqb (getD k 0 0) 49 ≡ b → gives (placeOf 1 (not b)) [] ≡ startText k
   unfolding startText
   start-at e b t =
       let same : first ≡ b = List·getD-map (λ c. eqb c 49) k 0 0 ∙ t in
       rw (← same) (told-key k [] (placeOf 1 (not first)) [] [] e .1)
+
+  pub start-word : Key ≡ judgement k → getD k 0 0 ≡ 49 → gives (placeOf 1 false) [] ≡ startText k
+  start-word e h = start-at e true (eq-eqb (getD k 0 0) 49 h)
+
+  pub start-turned : Key ≡ judgement k → (getD k 0 0 ≡ 49 → ⊥) → gives (placeOf 1 true) [] ≡ startText k
+  start-turned e h = start-at e false (ne-eqb (getD k 0 0) 49 h)
 
 -- the outcome of a step where only a long quotient is left to refuse
 abbrev pub takenAs : ℕ → Bool → Taken → Outcome

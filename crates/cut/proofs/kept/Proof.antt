@@ -18,12 +18,12 @@ loop-holds c =
 returns-one : tie.Need-returns Inv-loop μ-loop
 returns-one c =
     let b = c .before .before .before .before in
-    kept-one (b .loop .inv) (omega arith) 0 (c .if2 .taken)
+    kept-one (b .loop .inv) (omega arith) 0 (omega arith)
 
 loop-again : tie.Need-loop-again Inv-loop μ-loop
 loop-again c =
     let b = c .before .before .before .before in
-    left-less (b .loop .inv) (omega arith) 0 (c .if2 .left)
+    left-less (b .loop .inv) (omega arith) 0 (λ e. omega arith)
 
 returns-few : tie.Need-returns-2 Inv-loop μ-loop
 returns-few c = kept-few (c .before .loop .inv) (omega arith)

@@ -1,12 +1,12 @@
 -- `step::start` meets its contract. Each way is what judging gave, by `specs/Replies.antt`; the test of the first
 -- character says which kind is due. A key has one.
 use mathlib.Core.Path.{_≡_, sym, _∙_}
+use native.Mathlib.Omega.{arith}
 use borrow.Author.Needs.{needs}
-use borrow.Author.Tests.{eq-eqb, ne-eqb}
 use denote.Ref.{now}
 use Rattle.scan.specs.Judging.{judgement}
 use Rattle.scan.specs.declared.Judged.the-variants.{Key}
-use Rattle.step.specs.Replies.{start-faulty, some-character, start-at}
+use Rattle.step.specs.Replies.{start-faulty, some-character, start-word, start-turned}
 use Rattle.step.proofs.start.Statement.{statement}
 use Rattle.step.proofs.start.Tie as tie
 
@@ -17,10 +17,10 @@ first-read : tie.Need-shared-slice-read-if1
 first-read c = some-character _ (is-key (c .before))
 
 returns-word : tie.Need-returns
-returns-word c = start-at _ (is-key (c .before .before)) _ (eq-eqb _ 49 (c .if1 .taken))
+returns-word c = start-word _ (is-key (c .before .before)) (omega arith)
 
 returns-turned : tie.Need-returns-3
-returns-turned c = start-at _ (is-key (c .before .before)) _ (ne-eqb _ 49 (c .if1 .left))
+returns-turned c = start-turned _ (is-key (c .before .before)) (λ e. omega arith)
 
 returns-faulty : tie.Need-returns-2
 returns-faulty c = start-faulty _ _ _ (sym (c .before .fault .given .1) ∙ c .before .before .before .judge .ensures)
