@@ -6,7 +6,6 @@ use mathlib.Core.List.{List, [], _∷_}
 use Prim.Native.Nat.{ℕ, _≤_}
 use native.Mathlib.Omega.{arith}
 use denote.Ref.{RefT, now}
-use lib.Dec.{lit≤}
 use lib.ListN.{getD}
 use Rattle.bits.specs.Strings.{Bits}
 use Rattle.bits.specs.Texts.{bitsOfText}
@@ -60,8 +59,7 @@ compared : (j k : List ℕ)
     → (compareText j k ≡ gives (standing (bitsOfText j) (bitsOfText k) ∷ []) []) ⊎ ((compareText j k) .refusal ≡ 0 → ⊥)
 unfolding compareText
 compared j k =
-    given-or-refused (keyRefusals j (keyRefusals k [])) (standing (bitsOfText j) (bitsOfText k) ∷ []) [] []
-    (lit≤ tt, (lit≤ tt, (lit≤ tt, (lit≤ tt, (lit≤ tt, (lit≤ tt, (lit≤ tt, (lit≤ tt, tt))))))))
+    given-or-refused (keyRefusals j (keyRefusals k [])) (standing (bitsOfText j) (bitsOfText k) ∷ []) [] [] refl
 
 -- the contract leaves one result: one reference or, where comparing refuses, one address and no character
 pub earlier-unique : (j k r s : RefT (List ℕ)) → Earlier j k r → Earlier j k s

@@ -1,11 +1,10 @@
 -- What cutting answers, by what judging, counting and copying gave.
 use mathlib.Core.Path.{_≡_, sym, _∙_, ap}
-use mathlib.Core.Bool.{or-true}
-use mathlib.Core.Logic.{_⊎_, inl, inr}
+use mathlib.Core.Logic.{_⊎_}
 use mathlib.Core.List.{List, [], _∷_}
 use Prim.Native.Nat.{ℕ, _≤_, _<_}
 use native.Mathlib.Omega.{arith}
-use borrow.Author.Tests.{eq-eqb, ne-eqb, lt-ltb, le-ltb}
+use borrow.Author.Tests.{lt-ltb, le-ltb}
 use lib.ListN.{length, take, length-map, length-take}
 use lib.Seq.{take-take}
 use Rattle.bits.specs.Strings.{Bits}
@@ -17,6 +16,7 @@ use Rattle.outcomes.specs.Outcomes.{Refusal, gives, refuses, called}
 use Rattle.outcomes.specs.Refusals.{shortBuffer, outside}
 use Rattle.outcomes.specs.TextKeys.{clear-canonical}
 use Rattle.outcomes.specs.Cutting.{cutText}
+use Rattle.outcomes.specs.Cuts.{inside, beyond}
 use Rattle.scan.specs.Judging.{judgement, numberOfFault}
 use Rattle.scan.specs.Callers.{told-faulty, told-key, judged-clear}
 use Rattle.scan.specs.declared.Judged.the-variants.{Key, Faulty}
@@ -58,12 +58,11 @@ module _ (k : List ℕ) (n : ℕ) (m : List ℕ) where
         ∙ ap (take (length key)) whole
 
     pub cut-outside : (n ≡ 0) ⊎ (96 < n) → refuses 8 1 m ≡ cutText k n m
-    cut-outside (inl z) = rw (eq-eqb n 0 z) at (judged .1)
-    cut-outside (inr l) = rw (lt-ltb 96 n l, or-true) at (judged .1)
+    cut-outside h = rw (beyond 96 n h) at (judged .1)
 
     module _ (some : 1 ≤ n) (fits : n ≤ 96) where
       within : called (shortBuffer 96 m ∷ []) (length key ∷ []) m after ≡ cutText k n m
-      within = rw (ne-eqb n 0 (λ z. omega arith), le-ltb 96 n fits) at (judged .1)
+      within = rw (inside 96 n some fits) at (judged .1)
 
       pub cut-short : length m < 96 → refuses 2 1 m ≡ cutText k n m
       cut-short l = rw (lt-ltb (length m) 96 l) at within

@@ -1,9 +1,8 @@
 -- The demands are met. Each field names its theorem.
-use mathlib.Core.Path.{_≡_, ap}
+use mathlib.Core.Path.{_≡_, refl, ap}
 use mathlib.Core.Bool.{false, not}
 use mathlib.Core.List.{List, [], _∷_}
 use Prim.Native.Nat.{ℕ, _≤_}
-use lib.Dec.{lit≤}
 use lib.ListN.{length, getD, length-map}
 use Rattle.bits.specs.Binary.{bitsOfBytes}
 use Rattle.bits.specs.Texts.{textOf, bitsOfText, inFront}
@@ -19,7 +18,7 @@ use Rattle.keys.specs.Cutting.{cut-places}
 use Rattle.keys.specs.Distance.{cut-distance}
 use Rattle.outcomes.specs.Outcomes.{Outcome, Refusal, firstOf, called}
 use Rattle.outcomes.specs.Refusals.{zeroDenominator, keyRefusals}
-use Rattle.outcomes.specs.Laws.{called-number, called-kept, Clear, Numbered, clear-first, clear-number}
+use Rattle.outcomes.specs.Laws.{called-number, called-kept, Clear, clear-first, clear-number}
 use Rattle.outcomes.specs.TextKeys.{text-clear, clear-canonical}
 use Rattle.outcomes.specs.Writing.{counts, writeText, writeColumn}
 use Rattle.outcomes.specs.Reading.{terms, readText, readColumn, reduce}
@@ -46,9 +45,8 @@ refuses-first order values before after = record {
 }
 
 -- a key that is refused by no number has no fault
-judged : (k : List ℕ) (more : List Refusal) → Numbered more → firstOf (keyRefusals k more) ≡ 0
-    → Clear (keyRefusals k more)
-judged k more numbered = clear-first (keyRefusals k more) (lit≤ tt, (lit≤ tt, (lit≤ tt, (lit≤ tt, numbered))))
+judged : (k : List ℕ) → firstOf (keyRefusals k []) ≡ 0 → Clear (keyRefusals k [])
+judged k = clear-first (keyRefusals k []) refl
 
 -- and the text of a canonical key isn't refused
 accepted : (k : List ℕ) → Canonical (bitsOfText k) → length k ≤ 96 → textOf (bitsOfText k) ≡ k
@@ -59,7 +57,7 @@ accepted k c h e =
 checked : Checked
 unfolding writeText writeColumn readText readColumn columnToText textToColumn compareText cutText startText stepText
 checked = record {
-  keys = λ k. (λ good. clear-canonical k (judged k [] tt good), λ (c, (h, e)). accepted k c h e);
+  keys = λ k. (λ good. clear-canonical k (judged k good), λ (c, (h, e)). accepted k c h e);
   write-text = λ p q m. refuses-first _ (counts p q) _ (inFront (textOf (keyOf words1983 p q)) m);
   write-column = λ p q m. refuses-first _ (counts p q) _ (inFront (columnOf (keyOf words1983 p q)) m);
   read-text = λ k. refuses-first _ (terms (valueOfKey words1983 (bitsOfText k))) _ [];
@@ -88,7 +86,7 @@ again = record {
   text = text-again;
   column = λ c m p q bytes e h. ap (λ (o : Outcome). o .memory) (column-again c m p q bytes e h);
   packed = λ k l m good h j.
-      let clear = judged k [] tt good in (text-packed k l clear h, packed-back k m clear j);
+      let clear = judged k good in (text-packed k l clear h, packed-back k m clear j);
   unpacked = λ c l m bytes size h j. (column-unpacked c l size h, unpacked-back c m size bytes j);
 }
 
@@ -107,16 +105,14 @@ faithful : Faithful
 faithful = record {
   written = written;
   again = again;
-  stepped = λ k p q good. text-stepped k (judged k [] tt good) p q;
-  compared = λ j k p q r s good.
-      let numbered : Numbered (keyRefusals k []) = (lit≤ tt, (lit≤ tt, (lit≤ tt, (lit≤ tt, tt)))) in
-      text-compared j k p q r s (judged j (keyRefusals k []) numbered good);
+  stepped = λ k p q good. text-stepped k (judged k good) p q;
+  compared = λ j k p q r s good. text-compared j k p q r s (clear-first (keyRefusals j (keyRefusals k [])) refl good);
   ordered = ordered;
 }
 
 near : Near
 near = record {
-  cut = λ k m n good. text-cut k m n (judged k [] tt good);
+  cut = λ k m n good. text-cut k m n (judged k good);
   distance = cut-distance;
   places = cut-places;
 }

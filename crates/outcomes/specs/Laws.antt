@@ -1,10 +1,12 @@
 -- What holds of every call, whatever its order of refusals.
 use mathlib.Core.Path.{_≡_, refl, sym, _∙_, ap}
-use mathlib.Core.Bool.{true, false}
+use mathlib.Core.Bool.{Bool, true, false, _&&_, false≢true}
 use mathlib.Core.Logic.{_⊎_, inl, inr}
 use mathlib.Core.List.{List, [], _∷_}
-use Prim.Native.Nat.{ℕ, _≤_}
+use Prim.Native.Nat.{ℕ, _<_}
 use native.Mathlib.Omega.{arith}
+use borrow.Author.Tests.{ltb-true}
+use lib.Dec.{ltb}
 use lib.ListN.{length, replicate, length-replicate}
 use Rattle.outcomes.specs.Outcomes.{Outcome, Answer, Refusal, leaves, gives, firstOf, called}
 
@@ -35,22 +37,29 @@ pub clear-called : (order : List Refusal) (values before after : List ℕ) → C
 clear-called [] v b a c = refl
 clear-called ((n, here) ∷ l) v b a (e, c) = rw e (clear-called l v b a c)
 
--- every number of the order is at least 1
-abbrev pub Numbered : List Refusal → Type 0
-Numbered [] = Unit {0}
-Numbered ((n, here) ∷ l) = (1 ≤ n) × Numbered l
+-- whether every number of the order is at least 1; of a written order this computes
+abbrev pub numbered : List Refusal → Bool
+numbered [] = true
+numbered ((n, here) ∷ l) = ltb 0 n && numbered l
 
-pub clear-first : (order : List Refusal) → Numbered order → firstOf order ≡ 0 → Clear order
+numbered-first : (n : ℕ) (b : Bool) → (ltb 0 n && b) ≡ true → (0 < n) × (b ≡ true)
+numbered-first n b = by-test (ltb 0 n) refl
+  where
+    by-test : (t : Bool) → ltb 0 n ≡ t → (t && b) ≡ true → (0 < n) × (b ≡ true)
+    by-test true e h = (ltb-true 0 n e, h)
+    by-test false e h = absurd (false≢true h)
+
+pub clear-first : (order : List Refusal) → numbered order ≡ true → firstOf order ≡ 0 → Clear order
 clear-first [] k e = tt
-clear-first ((n, true) ∷ l) (k, r) e = absurd (omega (arith, e))
-clear-first ((n, false) ∷ l) (k, r) e = (refl, clear-first l r e)
+clear-first ((n, true) ∷ l) k e = absurd (omega (arith, e, numbered-first n (numbered l) k .0))
+clear-first ((n, false) ∷ l) k e = (refl, clear-first l (numbered-first n (numbered l) k .1) e)
 
 pub clear-number : (order : List Refusal) → Clear order → firstOf order ≡ 0
 clear-number [] c = refl
 clear-number ((n, here) ∷ l) (e, c) = rw e (clear-number l c)
 
 -- a call that gives something met no fault, and gives its values
-pub gives-clear : (order : List Refusal) (values before after : List ℕ) → Numbered order → (v m : List ℕ)
+pub gives-clear : (order : List Refusal) (values before after : List ℕ) → numbered order ≡ true → (v m : List ℕ)
     → called order values before after ≡ gives v m → Clear order × ((values ≡ v) × (after ≡ m))
 gives-clear order values before after k v m e =
     let none : firstOf order ≡ 0 =
@@ -60,12 +69,12 @@ gives-clear order values before after k v m e =
     (c, (ap (λ (o : Outcome). o .values) same, ap (λ (o : Outcome). o .memory) same))
 
 -- a call gives its values or refuses
-pub given-or-refused : (order : List Refusal) (values before after : List ℕ) → Numbered order
+pub given-or-refused : (order : List Refusal) (values before after : List ℕ) → numbered order ≡ true
     → (called order values before after ≡ gives values after)
     ⊎ ((called order values before after) .refusal ≡ 0 → ⊥)
-given-or-refused [] v b a h = inl refl
-given-or-refused ((n, true) ∷ l) v b a (h, r) = inr (λ e. omega (arith, e))
-given-or-refused ((n, false) ∷ l) v b a (h, r) = given-or-refused l v b a r
+given-or-refused [] v b a k = inl refl
+given-or-refused ((n, true) ∷ l) v b a k = inr (λ e. omega (arith, e, numbered-first n (numbered l) k .0))
+given-or-refused ((n, false) ∷ l) v b a k = given-or-refused l v b a (numbered-first n (numbered l) k .1)
 
 -- one outcome stands for one answer of a call's enum and one memory, where the number and the values tell the answer
 abbrev pub Determined : {A : Type 0} → (A → Answer) → Outcome → Type 0

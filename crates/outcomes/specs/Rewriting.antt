@@ -1,10 +1,10 @@
 -- What was read is written again as it was; and text and column stand for each other, both ways. On outcomes alone.
-use mathlib.Core.Path.{_≡_, sym, _∙_, ap}
+use mathlib.Core.Path.{_≡_, refl, sym, _∙_, ap}
 use mathlib.Core.List.{List, [], _∷_, head-eq-of-cons-eq, tail-eq-of-cons-eq}
 use Prim.Native.Nat.{ℕ, _≤_}
 use native.Mathlib.Omega.{arith}
 use borrow.Author.Tests.{eq-eqb, eqb-true, eqb-false, not-false}
-use lib.Dec.{eqb, lit≤}
+use lib.Dec.{eqb}
 use lib.ListN.{length, length-map}
 use Rattle.bits.specs.Strings.{Bits, closed}
 use Rattle.bits.specs.Binary.{bytesOf, bitsOfBytes}
@@ -46,8 +46,7 @@ unfolding readText
 text-value k p q e =
     let v = valueOfKey words1983 (bitsOfText k) in
     let (clear, (same, none)) =
-    gives-clear (keyRefusals k (outOfRange v ∷ [])) (terms v) [] []
-    (lit≤ tt, (lit≤ tt, (lit≤ tt, (lit≤ tt, (lit≤ tt, tt))))) (p ∷ q ∷ []) [] e in
+    gives-clear (keyRefusals k (outOfRange v ∷ [])) (terms v) [] [] refl (p ∷ q ∷ []) [] e in
     let (canonical, (short, text)) = clear-canonical k (judged-first k (outOfRange v ∷ []) clear .0) in
     (same-terms v p q same, (canonical, text))
 
@@ -87,7 +86,7 @@ column-value c p q e =
     let s = bitsOfBytes c in
     let v = valueOfKey words1983 s in
     let ((twelve, range), (same, none)) =
-    gives-clear (wrongColumn c ∷ outOfRange v ∷ []) (terms v) [] [] (lit≤ tt, (lit≤ tt, tt)) (p ∷ q ∷ []) [] e in (
+    gives-clear (wrongColumn c ∷ outOfRange v ∷ []) (terms v) [] [] refl (p ∷ q ∷ []) [] e in (
       eqb-true (length c) 12 (not-false (eqb (length c) 12) twelve),
       value-same words1983 (closed s) s (closed-same s) ∙ same-terms v p q same,
     )

@@ -5,7 +5,7 @@ use mathlib.Core.Bool.{Bool, true, false, cond}
 use mathlib.Core.List.{List, []}
 use Prim.Native.Nat.{ℕ, _-_, _≤_}
 use borrow.Author.Tests.{ltb-false}
-use lib.Dec.{eqb, lit≤}
+use lib.Dec.{eqb}
 use lib.ListN.{length}
 use Rattle.outcomes.specs.Outcomes.{Outcome, Refusal, refuses, called}
 use Rattle.outcomes.specs.Laws.{Clear, gives-clear}
@@ -54,8 +54,7 @@ module _ (k : List ℕ) (more : List Refusal) (values before after : List ℕ) w
 -- a key has none of the four faults
 pub judged-clear : (k : List ℕ) → Key ≡ judgement k → Clear (keyRefusals k [])
 judged-clear k e =
-    gives-clear (keyRefusals k []) [] [] [] (lit≤ tt, (lit≤ tt, (lit≤ tt, (lit≤ tt, tt)))) [] []
-    (sym (told-key k [] [] [] [] e .1)) .0
+    gives-clear (keyRefusals k []) [] [] [] refl [] [] (sym (told-key k [] [] [] [] e .1)) .0
 
 -- the fault that a number stands for
 abbrev pub faultOf : ℕ → Fault

@@ -1,6 +1,7 @@
 -- What starting and stepping answer, by what judging and taking gave; and the block of what is left of a key.
 use mathlib.Core.Path.{_≡_, refl, _∙_}
 use mathlib.Core.Bool.{Bool, true, false, not}
+use mathlib.Core.Logic.{_⊎_}
 use mathlib.Core.List.{List, [], _∷_}
 use Prim.Native.Nat.{ℕ, _+_, _-_, _≤_, _<_}
 use native.Mathlib.Omega.{arith}
@@ -20,6 +21,7 @@ use Rattle.keys.specs.Places.{leftAt}
 use Rattle.keys.specs.Sameness.{left-same}
 use Rattle.outcomes.specs.Outcomes.{Outcome, Refusal, gives, refuses, called}
 use Rattle.outcomes.specs.Refusals.{longQuotient, outside}
+use Rattle.outcomes.specs.Cuts.{inside, beyond}
 use Rattle.outcomes.specs.Stepping.{placeOf, startText, quotientAt, found, placeAfter, stepText}
 use Rattle.scan.specs.Judging.{judgement, numberOfFault}
 use Rattle.scan.specs.Taking.{takenFrom, taken-same}
@@ -103,11 +105,8 @@ module _ (k : List ℕ) (used : ℕ) where
       unfolding stepText
       judged = told-key k more (found next) here after e
 
-      pub step-none : used ≡ 0 → refuses 8 2 here ≡ stepText k used z
-      step-none h = rw (eq-eqb used 0 h) at (judged .1)
-
-      pub step-far : 160 < used → refuses 8 2 here ≡ stepText k used z
-      step-far h = rw (ne-eqb used 0 (λ o. omega arith), lt-ltb 160 used h) at (judged .1)
+      pub step-outside : (used ≡ 0) ⊎ (160 < used) → refuses 8 2 here ≡ stepText k used z
+      step-outside h = rw (beyond 160 used h) at (judged .1)
 
       pub step-taken : 1 ≤ used → used ≤ 160 → (b : Block) → b ≡ blockOf (drop used (bitsOfText k)) → (t : Taken)
           → t ≡ takenFrom z (leftAt (bitsOfBlock b) 0 z) → takenAs used z t ≡ stepText k used z
@@ -117,4 +116,4 @@ module _ (k : List ℕ) (used : ℕ) where
           rw loads (block-whole left (rw (length-drop, length-map) (omega (arith, judged .0)))) in
           let same = left-same z (bitsOfBlock b) (bitsOfText k) 0 used held in
           taken-outcome t (told z rest t (takes ∙ taken-same z (leftAt (bitsOfBlock b) 0 z) rest same))
-          ∙ rw (ne-eqb used 0 (λ o. omega arith), le-ltb 160 used most) at (judged .1)
+          ∙ rw (inside 160 used some most) at (judged .1)

@@ -1,5 +1,6 @@
 -- `step::step` meets its contract. Each way is what judging and taking gave, by `specs/Replies.antt`.
 use mathlib.Core.Path.{_≡_, sym, _∙_, ap}
+use mathlib.Core.Logic.{inl, inr}
 use native.Mathlib.Omega.{arith}
 use borrow.Author.Needs.{needs}
 use denote.Ref.{now}
@@ -8,7 +9,7 @@ use Rattle.scan.specs.Judging.{judgement}
 use Rattle.scan.specs.Taking.{isTurned}
 use Rattle.scan.specs.Told.{taken-size}
 use Rattle.scan.specs.declared.Judged.the-variants.{Key}
-use Rattle.step.specs.Replies.{takenAs, step-faulty, step-none, step-far, step-taken}
+use Rattle.step.specs.Replies.{takenAs, step-faulty, step-outside, step-taken}
 use Rattle.step.proofs.step.Statement.{statement}
 use Rattle.step.proofs.step.Tie as tie
 
@@ -21,10 +22,10 @@ returns-faulty c =
     rw (c .stays .ensures) (step-faulty _ _ _ _ _ (sym (x .fault .given .1) ∙ x .before .before .judge .ensures))
 
 returns-none : tie.Need-returns
-returns-none c = rw (c .stays2 .ensures) (step-none _ _ _ (is-key (c .before .before)) (omega arith))
+returns-none c = rw (c .stays2 .ensures) (step-outside _ _ _ (is-key (c .before .before)) (inl (omega arith)))
 
 returns-far : tie.Need-returns-2
-returns-far c = rw (c .stays3 .ensures) (step-far _ _ _ (is-key (c .before .before .before)) (omega arith))
+returns-far c = rw (c .stays3 .ensures) (step-outside _ _ _ (is-key (c .before .before .before)) (inr (omega arith)))
 
 taken-as : (c : tie.After-take) → let start = c .before .before .before .before .before .before .before .before in
     let used = start .args .place .used in
