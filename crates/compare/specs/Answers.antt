@@ -7,8 +7,7 @@ use lib.ListN.{getD}
 use Rattle.outcomes.specs.Outcomes.{Answer, given, refused}
 use Rattle.outcomes.specs.Comparing.{before, same, after}
 use Rattle.scan.specs.Judging.{numberOfFault}
-use Rattle.scan.specs.Callers.{faultOf}
-use Rattle.scan.specs.declared.Fault.the-variants.{Empty, Long, Character, LastZero}
+use Rattle.scan.specs.Callers.{faultOf, fault-told}
 use Rattle.compare.specs.declared.Compared.{Compared}
 use Rattle.compare.specs.declared.Compared.the-variants.{Before, Same, After, Faulty}
 
@@ -28,7 +27,4 @@ pub compared-told : (r : Compared) → comparedOf (comparedAs r) ≡ r
 compared-told Before = refl
 compared-told Same = refl
 compared-told After = refl
-compared-told (Faulty Empty) = refl
-compared-told (Faulty Long) = refl
-compared-told (Faulty Character) = refl
-compared-told (Faulty LastZero) = refl
+compared-told (Faulty f) = fault-told (λ n. comparedOf (refused n 1)) Faulty refl refl refl refl f

@@ -6,8 +6,7 @@ use lib.Dec.{eqb}
 use lib.ListN.{getD}
 use Rattle.outcomes.specs.Outcomes.{Answer, given, refused}
 use Rattle.scan.specs.Judging.{numberOfFault}
-use Rattle.scan.specs.Callers.{faultOf}
-use Rattle.scan.specs.declared.Fault.the-variants.{Empty, Long, Character, LastZero}
+use Rattle.scan.specs.Callers.{faultOf, fault-told}
 use Rattle.cut.specs.declared.Shortened.{Shortened}
 use Rattle.cut.specs.declared.Shortened.the-variants.{Key, Faulty, WrongWidth, ShortBuffer}
 
@@ -25,9 +24,6 @@ shortenedOf a =
 
 pub shortened-told : (r : Shortened) → shortenedOf (shortenedAs r) ≡ r
 shortened-told (Key characters) = refl
-shortened-told (Faulty Empty) = refl
-shortened-told (Faulty Long) = refl
-shortened-told (Faulty Character) = refl
-shortened-told (Faulty LastZero) = refl
+shortened-told (Faulty f) = fault-told (λ n. shortenedOf (refused n 1)) Faulty refl refl refl refl f
 shortened-told WrongWidth = refl
 shortened-told ShortBuffer = refl

@@ -7,8 +7,7 @@ use lib.Dec.{eqb}
 use lib.ListN.{getD}
 use Rattle.outcomes.specs.Outcomes.{Answer, given, refused}
 use Rattle.scan.specs.Judging.{numberOfFault}
-use Rattle.scan.specs.Callers.{faultOf}
-use Rattle.scan.specs.declared.Fault.the-variants.{Empty, Long, Character, LastZero}
+use Rattle.scan.specs.Callers.{faultOf, fault-told}
 use Rattle.pack.specs.declared.Unpacked.{Unpacked}
 use Rattle.pack.specs.declared.Unpacked.the-variants as unpacked
 use Rattle.pack.specs.declared.Packed.{Packed}
@@ -41,8 +40,5 @@ packedOf a =
 
 pub packed-told : (r : Packed) → packedOf (packedAs r) ≡ r
 packed-told packed.Column = refl
-packed-told (packed.Faulty Empty) = refl
-packed-told (packed.Faulty Long) = refl
-packed-told (packed.Faulty Character) = refl
-packed-told (packed.Faulty LastZero) = refl
+packed-told (packed.Faulty f) = fault-told (λ n. packedOf (refused n 0)) packed.Faulty refl refl refl refl f
 packed-told packed.ShortBuffer = refl

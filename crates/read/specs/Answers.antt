@@ -6,8 +6,7 @@ use lib.Dec.{eqb}
 use lib.ListN.{getD}
 use Rattle.outcomes.specs.Outcomes.{Answer, given, refused}
 use Rattle.scan.specs.Judging.{numberOfFault}
-use Rattle.scan.specs.Callers.{faultOf}
-use Rattle.scan.specs.declared.Fault.the-variants.{Empty, Long, Character, LastZero}
+use Rattle.scan.specs.Callers.{faultOf, fault-told}
 use Rattle.read.specs.declared.ReadText.{ReadText}
 use Rattle.read.specs.declared.ReadText.the-variants as text
 use Rattle.read.specs.declared.ReadColumn.{ReadColumn}
@@ -30,10 +29,7 @@ textReadOf a =
 
 pub text-read-told : (r : ReadText) → textReadOf (textReadAs r) ≡ r
 text-read-told (text.Ratio p q) = refl
-text-read-told (text.Faulty Empty) = refl
-text-read-told (text.Faulty Long) = refl
-text-read-told (text.Faulty Character) = refl
-text-read-told (text.Faulty LastZero) = refl
+text-read-told (text.Faulty f) = fault-told (λ n. textReadOf (refused n 2)) text.Faulty refl refl refl refl f
 text-read-told text.OutOfRange = refl
 
 abbrev pub columnReadOf : Answer → ReadColumn

@@ -59,3 +59,12 @@ judged-clear k e =
 -- the fault that a number stands for
 abbrev pub faultOf : ℕ → Fault
 faultOf n = cond (eqb n 3) Empty (cond (eqb n 4) Long (cond (eqb n 5) Character LastZero))
+
+-- an answer that each fault's number tells
+pub fault-told : {A : Type 0} (answerOf : ℕ → A) (faulty : Fault → A) → answerOf 3 ≡ faulty Empty
+    → answerOf 4 ≡ faulty Long → answerOf 5 ≡ faulty Character → answerOf 6 ≡ faulty LastZero
+    → (f : Fault) → answerOf (numberOfFault f) ≡ faulty f
+fault-told answerOf faulty a b c d Empty = a
+fault-told answerOf faulty a b c d Long = b
+fault-told answerOf faulty a b c d Character = c
+fault-told answerOf faulty a b c d LastZero = d

@@ -11,8 +11,7 @@ use Rattle.outcomes.specs.Outcomes.{Answer, given, refused}
 use Rattle.outcomes.specs.Stepping.{placeOf}
 use Rattle.scan.specs.Judging.{numberOfFault}
 use Rattle.scan.specs.Taking.{isTurned}
-use Rattle.scan.specs.Callers.{faultOf}
-use Rattle.scan.specs.declared.Fault.the-variants as fault
+use Rattle.scan.specs.Callers.{faultOf, fault-told}
 use Rattle.scan.specs.declared.Kind.{Kind}
 use Rattle.scan.specs.declared.Kind.the-variants.{Word, Turned}
 use Rattle.scan.specs.declared.Place.{Place}
@@ -55,10 +54,7 @@ startedOf a =
 
 pub started-told : (r : Started) → startedOf (startedAs r) ≡ r
 started-told (started.At p) = ap started.At (place-told p)
-started-told (started.Faulty fault.Empty) = refl
-started-told (started.Faulty fault.Long) = refl
-started-told (started.Faulty fault.Character) = refl
-started-told (started.Faulty fault.LastZero) = refl
+started-told (started.Faulty f) = fault-told (λ n. startedOf (refused n 2)) started.Faulty refl refl refl refl f
 
 abbrev pub metOf : Answer → Met
 metOf a =
@@ -69,9 +65,6 @@ metOf a =
 pub met-told : (r : Met) → metOf (metAs r) ≡ r
 met-told (met.Quotient a) = refl
 met-told met.End = refl
-met-told (met.Faulty fault.Empty) = refl
-met-told (met.Faulty fault.Long) = refl
-met-told (met.Faulty fault.Character) = refl
-met-told (met.Faulty fault.LastZero) = refl
+met-told (met.Faulty f) = fault-told (λ n. metOf (refused n 2)) met.Faulty refl refl refl refl f
 met-told met.WrongPlace = refl
 met-told met.OutOfRange = refl
