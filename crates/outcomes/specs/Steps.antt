@@ -133,15 +133,16 @@ module _ (k : List ℕ) (clear : Clear (keyRefusals k [])) where
       by-size (yes h) = inl (h, step-long used z (f .some) few (rw first h))
       by-size (no h) =
           let low : b ≤ limit = omega arith in
-          let within : Within next (not z) = within-next used z e (f .within) (rw same low) in (
+          let within : Within next (not z) = within-next used z e (f .within) (rw same low) in
           inr (
             next,
             omega (arith, within),
-            step-given used z (f .some) few (rw first low)
-                ∙ rw (first, same, lt-ltb 0 b (omega (arith, positive))) refl,
-            again next (not z)
-                (record { some = omega (arith, f .some); within = within; quotients = tail-eq-of-cons-eq both }),
-          )
+            step-given used z (f .some) few (rw first low) ∙ rw (first, same, lt-ltb 0 b positive) refl,
+            again next (not z) (record {
+              some = omega (arith, f .some);
+              within = within;
+              quotients = tail-eq-of-cons-eq both;
+            }),
           )
 
   steps-on : (l : List ℕ) (used : ℕ) (z : Bool) → From used z l → Steps k used z l
