@@ -17,10 +17,10 @@ use Rattle.outcomes.specs.Refusals.{keyRefusals}
 
 -- r is handed back for j and k. Where comparing refuses, r has the address of j and no character.
 pub record Earlier (j k r : RefT (List ℕ)) : Type 0 where
-  pub before : compareText (now j) (now k) ≡ gives (before ∷ []) [] → r ≡ j
-  pub same : compareText (now j) (now k) ≡ gives (same ∷ []) [] → r ≡ j
-  pub after : compareText (now j) (now k) ≡ gives (after ∷ []) [] → r ≡ k
-  pub refused : ((compareText (now j) (now k)) .refusal ≡ 0 → ⊥) → (r .ptr ≡ j .ptr) × (now r ≡ [])
+  pub if-before : compareText (now j) (now k) ≡ gives (before ∷ []) [] → r ≡ j
+  pub if-same : compareText (now j) (now k) ≡ gives (same ∷ []) [] → r ≡ j
+  pub if-after : compareText (now j) (now k) ≡ gives (after ∷ []) [] → r ≡ k
+  pub if-refused : ((compareText (now j) (now k)) .refusal ≡ 0 → ⊥) → (r .ptr ≡ j .ptr) × (now r ≡ [])
 
 -- each answer of comparing makes one of the three the earlier key
 module _ (j k : RefT (List ℕ)) (a : Answer) (told : leaves a [] ≡ compareText (now j) (now k)) where
@@ -32,27 +32,27 @@ module _ (j k : RefT (List ℕ)) (a : Answer) (told : leaves a [] ≡ compareTex
 
   pub first-earlier : a .refusal ≡ 0 → getD (a .values) 0 0 ≤ same → Earlier j k j
   first-earlier z l = record {
-    before = λ e. refl;
-    same = λ e. refl;
-    after = λ e. absurd (omega (arith, value after e));
-    refused = λ n. absurd (n (sym number ∙ z));
+    if-before = λ e. refl;
+    if-same = λ e. refl;
+    if-after = λ e. absurd (omega (arith, value after e));
+    if-refused = λ n. absurd (n (sym number ∙ z));
   }
 
   pub second-earlier : a .refusal ≡ 0 → getD (a .values) 0 0 ≡ after → Earlier j k k
   second-earlier z v = record {
-    before = λ e. absurd (omega (arith, value before e));
-    same = λ e. absurd (omega (arith, value same e));
-    after = λ e. refl;
-    refused = λ n. absurd (n (sym number ∙ z));
+    if-before = λ e. absurd (omega (arith, value before e));
+    if-same = λ e. absurd (omega (arith, value same e));
+    if-after = λ e. refl;
+    if-refused = λ n. absurd (n (sym number ∙ z));
   }
 
   pub none-earlier : (name : ℕ) → getD (a .values) 0 0 ≡ 0
       → Earlier j k (record { ptr = j .ptr; name = name; now = [] })
   none-earlier name v = record {
-    before = λ e. absurd (omega (arith, value before e));
-    same = λ e. absurd (omega (arith, value same e));
-    after = λ e. absurd (omega (arith, value after e));
-    refused = λ n. (refl, refl);
+    if-before = λ e. absurd (omega (arith, value before e));
+    if-same = λ e. absurd (omega (arith, value same e));
+    if-after = λ e. absurd (omega (arith, value after e));
+    if-refused = λ n. (refl, refl);
   }
 
 compared : (j k : List ℕ)
@@ -72,7 +72,7 @@ earlier-unique j k r s p q = by-outcome _ (compared (now j) (now k)) (says-stand
     by-outcome : (n : ℕ) {x y : Bits} → (o ≡ gives (n ∷ []) []) ⊎ (o .refusal ≡ 0 → ⊥) → Says x y n
         → (r ≡ s) ⊎ ((o .refusal ≡ 0 → ⊥) × ((r .ptr ≡ s .ptr) × (now r ≡ now s)))
     by-outcome n (inr h) x =
-        inr (h, (p .refused h .0 ∙ sym (q .refused h .0), p .refused h .1 ∙ sym (q .refused h .1)))
-    by-outcome n (inl e) (says-before b h) = inl (p .before (rw b at e) ∙ sym (q .before (rw b at e)))
-    by-outcome n (inl e) (says-same b h) = inl (p .same (rw b at e) ∙ sym (q .same (rw b at e)))
-    by-outcome n (inl e) (says-after b h) = inl (p .after (rw b at e) ∙ sym (q .after (rw b at e)))
+        inr (h, (p .if-refused h .0 ∙ sym (q .if-refused h .0), p .if-refused h .1 ∙ sym (q .if-refused h .1)))
+    by-outcome n (inl e) (says-before b h) = inl (p .if-before (rw b at e) ∙ sym (q .if-before (rw b at e)))
+    by-outcome n (inl e) (says-same b h) = inl (p .if-same (rw b at e) ∙ sym (q .if-same (rw b at e)))
+    by-outcome n (inl e) (says-after b h) = inl (p .if-after (rw b at e) ∙ sym (q .if-after (rw b at e)))
