@@ -23,13 +23,10 @@ use denote.Struct.Declared.{Declared}
 use denote.Struct.Laws as struct
 use denote.Struct.Struct.{twices}
 use denote.Triple.Walked.{Stay, stay-none, stay-none-slice, Goes, goes-none, goes-none-slice}
-use Rattle.outcomes.specs.Outcomes.{leaves}
-use Rattle.outcomes.specs.Stepping.{stepText}
-use Rattle.scan.specs.Taking.{isTurned}
 use Rattle.scan.specs.declared.Place.{Place}
 use Rattle.scan.proofs.Place as place
 use Rattle.scan.proofs.Place.Laws as place-laws
-use Rattle.step.specs.Answers.{metAs, placeAs}
+use Rattle.step.specs.Answers.{steppedAs, stepFrom}
 use Rattle.step.specs.declared.Stepped.{Stepped}
 use Rattle.step.specs.declared.reader.Reader.{Reader}
 use Rattle.step.proofs.Stepped as stepped
@@ -76,7 +73,7 @@ Passed κ k p = owns (keyRow κ ∷ placeRow ∷ []) (k, (p, tt)) (keyVal k ∷ 
 
 -- what a step from a place of a key answers
 abbrev pub Told : List ℕ → Place → Stepped → Type 0
-Told k p s = leaves (metAs (s .met)) (placeAs (s .place)) ≡ stepText k (p .used) (isTurned (p .due))
+Told k p s = steppedAs s ≡ stepFrom k p
 
 -- the places of a signature
 abbrev keySlot : Slot 1

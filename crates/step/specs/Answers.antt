@@ -7,8 +7,8 @@ use Prim.Native.Nat.{ℕ}
 use lib.Dec.{eqb}
 use lib.ListN.{getD}
 use Rattle.bits.specs.Binary.{digitOf}
-use Rattle.outcomes.specs.Outcomes.{Answer, given, refused}
-use Rattle.outcomes.specs.Stepping.{placeOf}
+use Rattle.outcomes.specs.Outcomes.{Outcome, Answer, leaves, given, refused}
+use Rattle.outcomes.specs.Stepping.{placeOf, stepText}
 use Rattle.scan.specs.Judging.{numberOfFault}
 use Rattle.scan.specs.Taking.{isTurned}
 use Rattle.scan.specs.Callers.{faultOf, fault-told}
@@ -17,6 +17,7 @@ use Rattle.scan.specs.declared.Kind.the-variants.{Word, Turned}
 use Rattle.scan.specs.declared.Place.{Place}
 use Rattle.step.specs.declared.Started.{Started}
 use Rattle.step.specs.declared.Started.the-variants as started
+use Rattle.step.specs.declared.Stepped.{Stepped}
 use Rattle.step.specs.declared.Met.{Met}
 use Rattle.step.specs.declared.Met.the-variants as met
 
@@ -33,6 +34,14 @@ metAs met.End = given (0 ∷ 0 ∷ [])
 metAs (met.Faulty f) = refused (numberOfFault f) 2
 metAs met.WrongPlace = refused 8 2
 metAs met.OutOfRange = refused 7 2
+
+-- what a step leaves is the place that it hands back
+abbrev pub steppedAs : Stepped → Outcome
+steppedAs r = leaves (metAs (r .met)) (placeAs (r .place))
+
+-- the outcome of a step from a place
+abbrev pub stepFrom : List ℕ → Place → Outcome
+stepFrom k p = stepText k (p .used) (isTurned (p .due))
 
 -- the kind that a number stands for, and the place that numbers do
 abbrev kindOf : ℕ → Kind

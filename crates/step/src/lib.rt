@@ -12,9 +12,9 @@ ghost use lib.ListN.{drop};
 ghost use Rattle.bits.specs.Texts.{bitsOfText};
 ghost use Rattle.blocks.specs.Blocks.{blockOf};
 ghost use Rattle.outcomes.specs.Outcomes.{leaves};
-ghost use Rattle.outcomes.specs.Stepping.{startText, stepText};
+ghost use Rattle.outcomes.specs.Stepping.{startText};
 ghost use Rattle.scan.specs.Taking.{isTurned};
-ghost use Rattle.step.specs.Answers.{startedAs, metAs, placeAs};
+ghost use Rattle.step.specs.Answers.{startedAs, steppedAs, stepFrom};
 
 pub mod reader;
 
@@ -92,9 +92,7 @@ fn stays(met: Met, place: Place) -> Stepped
 
 // The word due at a place of a key. Only what is left of the key there is loaded.
 pub fn step(k: &[u8], place: Place) -> Stepped
-    ensures { λ r.
-        ⌜ leaves (metAs (r .met)) (placeAs (r .place))
-        ≡ stepText (now (k .entry)) (place .used) (isTurned (place .due)) ⌝ }
+    ensures { λ r. ⌜ steppedAs r ≡ stepFrom (now (k .entry)) place ⌝ }
 {
     let used = place.used;
     let due = place.due;

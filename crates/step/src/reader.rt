@@ -3,10 +3,7 @@
 use crate::Stepped;
 use scan::Place;
 ghost use mathlib.Core.Path.{_≡_};
-ghost use Rattle.outcomes.specs.Outcomes.{leaves};
-ghost use Rattle.outcomes.specs.Stepping.{stepText};
-ghost use Rattle.scan.specs.Taking.{isTurned};
-ghost use Rattle.step.specs.Answers.{metAs, placeAs};
+ghost use Rattle.step.specs.Answers.{steppedAs, stepFrom};
 
 pub struct Reader<'a> {
     pub key: &'a [u8],
@@ -22,9 +19,7 @@ pub fn hold<'a>(key: &'a [u8], place: Place) -> Reader<'a>
 
 // What the reader meets next, and the place after it.
 pub fn next<'a>(r: Reader<'a>) -> Stepped
-    ensures { λ s.
-        ⌜ leaves (metAs (s .met)) (placeAs (s .place))
-        ≡ stepText (now (r .entry .key)) (r .entry .place .used) (isTurned (r .entry .place .due)) ⌝ }
+    ensures { λ s. ⌜ steppedAs s ≡ stepFrom (now (r .entry .key)) (r .entry .place) ⌝ }
 {
     crate::step(r.key, r.place)
 }
@@ -38,9 +33,7 @@ pub fn moved<'a>(r: Reader<'a>, place: Place) -> Reader<'a>
 
 // The same as `next`, for a caller that holds no reader: with plain parameters, so that its callers are covered.
 pub fn next_at(key: &[u8], place: Place) -> Stepped
-    ensures { λ s.
-        ⌜ leaves (metAs (s .met)) (placeAs (s .place))
-        ≡ stepText (now (key .entry)) (place .used) (isTurned (place .due)) ⌝ }
+    ensures { λ s. ⌜ steppedAs s ≡ stepFrom (now (key .entry)) place ⌝ }
 {
     next(hold(key, place))
 }
