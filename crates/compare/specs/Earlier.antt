@@ -12,7 +12,7 @@ use Rattle.bits.specs.Texts.{bitsOfText}
 use Rattle.outcomes.specs.Outcomes.{Outcome, Answer, leaves, gives}
 use Rattle.outcomes.specs.Comparing.{before, same, after, standing, compareText}
 use Rattle.outcomes.specs.Laws.{given-or-refused}
-use Rattle.outcomes.specs.Orders.{Says, says-before, says-same, says-after, says-standing}
+use Rattle.outcomes.specs.Standings.{Says, says-before, says-same, says-after, says-standing}
 use Rattle.outcomes.specs.Refusals.{keyRefusals}
 
 -- r is handed back for j and k. Where comparing refuses, r has the address of j and no character.

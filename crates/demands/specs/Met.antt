@@ -27,7 +27,7 @@ use Rattle.outcomes.specs.Comparing.{standing, compareText}
 use Rattle.outcomes.specs.Cutting.{cutText}
 use Rattle.outcomes.specs.Stepping.{placeOf, startText, quotientAt, found, placeAfter, stepText}
 use Rattle.outcomes.specs.Cuts.{text-cut}
-use Rattle.outcomes.specs.Orders.{text-compared}
+use Rattle.outcomes.specs.Standings.{text-compared}
 use Rattle.outcomes.specs.Steps.{text-stepped}
 use Rattle.outcomes.specs.RoundTrips.{text-written, column-written, text-back, column-back}
 use Rattle.outcomes.specs.Rewriting.{text-lowest, column-lowest, text-again, column-again}

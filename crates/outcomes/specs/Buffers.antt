@@ -5,11 +5,16 @@ use mathlib.Core.Bool.{Bool, true, false, cond}
 use mathlib.Core.List.{List, [], _∷_}
 use Prim.Native.Nat.{ℕ, _≤_}
 use native.Mathlib.Omega.{arith}
-use borrow.Author.Tests.{ne-eqb}
+use borrow.Author.Tests.{le-ltb, ne-eqb}
 use lib.Dec.{eqb, ltb}
 use lib.ListN.{length}
 use Rattle.outcomes.specs.Outcomes.{Answer, leaves, given, refused, gives, refuses, called}
 use Rattle.outcomes.specs.Refusals.{shortBuffer}
+use Rattle.outcomes.specs.Laws.{Clear}
+
+-- a buffer that is large enough
+pub room : (n : ℕ) (m : List ℕ) → n ≤ length m → Clear (shortBuffer n m ∷ [])
+room n m h = (le-ltb (length m) n h, tt)
 
 -- k characters and memory as after; or, where the buffer is short, 0 and memory as it was
 abbrev pub Put : Bool → List ℕ → List ℕ → ℕ → ℕ → List ℕ → Type 0

@@ -14,7 +14,8 @@ use Rattle.outcomes.specs.Outcomes.{gives}
 use Rattle.outcomes.specs.Refusals.{keyRefusals, outside, shortBuffer}
 use Rattle.outcomes.specs.Laws.{Clear, clear-called}
 use Rattle.outcomes.specs.Cutting.{cutText}
-use Rattle.outcomes.specs.RoundTrips.{room, judged-more}
+use Rattle.outcomes.specs.Buffers.{room}
+use Rattle.outcomes.specs.TextKeys.{judged-more}
 
 -- a number from 1 to most
 pub inside : (most n : ℕ) → 1 ≤ n → n ≤ most → outside most n .1 ≡ false

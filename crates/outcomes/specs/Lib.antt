@@ -12,6 +12,6 @@ pub mod Buffers
 pub mod TextKeys
 pub mod RoundTrips
 pub mod Cuts
-pub mod Orders
+pub mod Standings
 pub mod Steps
 pub mod Rewriting

@@ -19,8 +19,9 @@ use Rattle.keys.specs.Back.{closed-canonical, canonical-closed, key-value, valu
 use Rattle.outcomes.specs.Outcomes.{gives}
 use Rattle.outcomes.specs.Refusals.{shortBuffer, keyRefusals, outOfRange, wrongColumn}
 use Rattle.outcomes.specs.Laws.{Clear, clear-called, gives-clear}
-use Rattle.outcomes.specs.TextKeys.{bits-of-text, text-clear, clear-canonical}
-use Rattle.outcomes.specs.RoundTrips.{room, judged-more, judged-first, column-same, text-written, column-written}
+use Rattle.outcomes.specs.TextKeys.{bits-of-text, text-clear, clear-canonical, judged-more, judged-first}
+use Rattle.outcomes.specs.Buffers.{room}
+use Rattle.outcomes.specs.RoundTrips.{column-same, text-written, column-written}
 use Rattle.outcomes.specs.Writing.{counts, writeText, writeColumn}
 use Rattle.outcomes.specs.Reading.{terms, readText, readColumn}
 use Rattle.outcomes.specs.Packing.{columnToText, textToColumn}

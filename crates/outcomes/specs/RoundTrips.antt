@@ -18,16 +18,13 @@ use Rattle.fractions.specs.Euclid.{usual-scaled, usual-value}
 use Rattle.keys.specs.Keys.{keyOf, valueOfKey, columnOf}
 use Rattle.keys.specs.Size.{limit, key-size}
 use Rattle.keys.specs.Back.{key-canonical, key-value, value-same}
-use Rattle.outcomes.specs.Outcomes.{Refusal, gives, called}
+use Rattle.outcomes.specs.Outcomes.{gives}
 use Rattle.outcomes.specs.Refusals.{zeroDenominator, shortBuffer, keyRefusals, outOfRange, wrongColumn}
 use Rattle.outcomes.specs.Laws.{Clear, clear-called}
-use Rattle.outcomes.specs.TextKeys.{bits-of-text, text-clear}
+use Rattle.outcomes.specs.Buffers.{room}
+use Rattle.outcomes.specs.TextKeys.{bits-of-text, text-clear, judged-more}
 use Rattle.outcomes.specs.Writing.{counts, writeText, writeColumn}
 use Rattle.outcomes.specs.Reading.{terms, readText, readColumn}
-
--- a buffer that is large enough
-pub room : (n : ℕ) (m : List ℕ) → n ≤ length m → Clear (shortBuffer n m ∷ [])
-room n m h = (le-ltb (length m) n h, tt)
 
 writing : (n p q : ℕ) (m : List ℕ) → 1 ≤ q → n ≤ length m → Clear (zeroDenominator q ∷ shortBuffer n m ∷ [])
 writing n p q m positive h = (ne-eqb q 0 (λ e. omega arith), room n m h)
@@ -49,19 +46,6 @@ column-written p q m positive h =
 -- a value in range
 in-range : (v : Ratio) → v .num ≤ limit → v .den ≤ limit → Clear (outOfRange v ∷ [])
 in-range v n d = (rw (le-ltb limit (v .num) n, le-ltb limit (v .den) d), tt)
-
-pub judged-more : (k : List ℕ) (more : List Refusal) → Clear (keyRefusals k []) → Clear more
-    → Clear (keyRefusals k more)
-judged-more k more (a, (b, (c, (d, u)))) r = (a, (b, (c, (d, r))))
-
-pub judged-first : (k : List ℕ) (more : List Refusal) → Clear (keyRefusals k more)
-    → Clear (keyRefusals k []) × Clear more
-judged-first k more (a, (b, (c, (d, r)))) = ((a, (b, (c, (d, tt)))), r)
-
--- where the key has no fault, the rest of the refusals decide
-pub judged-called : (k : List ℕ) (more : List Refusal) (values before after : List ℕ) → Clear (keyRefusals k [])
-    → called (keyRefusals k more) values before after ≡ called more values before after
-judged-called k more v b a (c, (d, (e, (f, u)))) = rw (c, d, e, f)
 
 read-text : (k : List ℕ) (v : Ratio) → Clear (keyRefusals k []) → valueOfKey words1983 (bitsOfText k) ≡ v
     → v .num ≤ limit → v .den ≤ limit → readText k ≡ gives (terms v) []

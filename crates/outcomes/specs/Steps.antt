@@ -23,8 +23,7 @@ use Rattle.outcomes.specs.Outcomes.{gives, refuses, called}
 use Rattle.outcomes.specs.Refusals.{keyRefusals, outside, longQuotient}
 use Rattle.outcomes.specs.Laws.{Clear, clear-called}
 use Rattle.outcomes.specs.Stepping.{placeOf, startText, quotientAt, found, placeAfter, stepText, Steps}
-use Rattle.outcomes.specs.TextKeys.{clear-canonical}
-use Rattle.outcomes.specs.RoundTrips.{judged-called}
+use Rattle.outcomes.specs.TextKeys.{clear-canonical, judged-called}
 use Rattle.outcomes.specs.Cuts.{inside}
 
 -- a text key without fault, and its bits

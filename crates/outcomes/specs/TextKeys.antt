@@ -1,5 +1,6 @@
 -- Text keys and canonical keys are the same: a text that no fault is found in is the text of its bits, which are a
--- canonical key; and the text of a canonical key of at most 96 characters has no fault.
+-- canonical key; and the text of a canonical key of at most 96 characters has no fault. Then a call's other refusals
+-- decide.
 use mathlib.Core.Path.{_≡_, refl, sym, _∙_, ap, subst}
 use mathlib.Core.Bool.{Bool, true, false, cond, _||_, true≢false, and-false}
 use mathlib.Core.Logic.{inl, inr}
@@ -14,6 +15,7 @@ use Rattle.bits.specs.Strings.{Bits}
 use Rattle.bits.specs.Texts.{charOf, textOf, bitsOfText}
 use Rattle.keys.specs.Keys.{Canonical}
 use Rattle.keys.specs.Back.{canonical-some}
+use Rattle.outcomes.specs.Outcomes.{Refusal, called}
 use Rattle.outcomes.specs.Refusals.{firstStrange, openKey, keyRefusals}
 use Rattle.outcomes.specs.Laws.{Clear}
 
@@ -96,3 +98,16 @@ clear-canonical k (e, (f, (g, r))) =
       last-canonical (bitsOfText k) (subst (λ (l : List ℕ). Clear (keyRefusals l [])) (sym text) (e, (f, (g, r)))),
       (ltb-false 96 (length k) f, text),
     )
+
+pub judged-more : (k : List ℕ) (more : List Refusal) → Clear (keyRefusals k []) → Clear more
+    → Clear (keyRefusals k more)
+judged-more k more (a, (b, (c, (d, u)))) r = (a, (b, (c, (d, r))))
+
+pub judged-first : (k : List ℕ) (more : List Refusal) → Clear (keyRefusals k more)
+    → Clear (keyRefusals k []) × Clear more
+judged-first k more (a, (b, (c, (d, r)))) = ((a, (b, (c, (d, tt)))), r)
+
+-- where the key has no fault, the rest of the refusals decide
+pub judged-called : (k : List ℕ) (more : List Refusal) (values before after : List ℕ) → Clear (keyRefusals k [])
+    → called (keyRefusals k more) values before after ≡ called more values before after
+judged-called k more v b a (c, (d, (e, (f, u)))) = rw (c, d, e, f)

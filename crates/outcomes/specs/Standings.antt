@@ -18,8 +18,7 @@ use Rattle.outcomes.specs.Outcomes.{gives}
 use Rattle.outcomes.specs.Refusals.{keyRefusals}
 use Rattle.outcomes.specs.Laws.{Clear, clear-called}
 use Rattle.outcomes.specs.Comparing.{before, same, after, numberStanding, standing, compareText}
-use Rattle.outcomes.specs.TextKeys.{clear-canonical}
-use Rattle.outcomes.specs.RoundTrips.{judged-first}
+use Rattle.outcomes.specs.TextKeys.{clear-canonical, judged-first}
 
 -- n says how s and t stand
 pub data Says (s t : Bits) (n : ℕ) : Type 0 where
