@@ -31,9 +31,8 @@ use denote.Triple.Spec.{Meets, tripleOf}
 use denote.Triple.Statement.{Contract, Triple}
 use denote.Triple.Table.{entered, cited}
 use denote.Triple.Walked.{says, Stays, walkOf, ends-at}
-use Rattle.outcomes.specs.Stepping.{stepText}
-use Rattle.scan.specs.Taking.{isTurned}
 use Rattle.scan.specs.declared.Place.{Place}
+use Rattle.step.specs.Answers.{stepFrom}
 use Rattle.step.specs.declared.reader.Reader.{Reader}
 use Rattle.step.proofs.Held.{keyRow, placeRow, readerRow, steppedRow, keyVal, placeVal, Passed, Told}
 use Rattle.step.proofs.Held.{key-stays, key-goes, key-tells, key-typed, place-stays, place-goes, place-tells}
@@ -109,7 +108,7 @@ module _ {M : Type 1} (𝓤 : URA M) (H : Heap 𝓤) (A : Atoms 𝓤) (W : Given
         move ! (3 ∷ 4 ∷ []) $ free1 ! $ free0 ! $
         suffices ! _ (ends-at 𝓤 H A next-at.ended stayed (next-at.clauses 𝓤 H A mem run) W here w s
         (tt, (tt, tt)) (tt, (tt, tt))) $
-        says ! (told ∙ (λ i. stepText (now (same .0 i)) (same .1 i .used) (isTurned (same .1 i .due)))) $
+        says ! (told ∙ (λ i. stepFrom (now (same .0 i)) (same .1 i))) $
         move ! (1 ∷ []) $ frame ! $ move ! (1 ∷ []) $ frame ! $ done !))))))))
 
   next-at-meets : (𝓣 : Tables 𝓤 H) → Triple 𝓤 (𝓣 .C #step·reader·hold) Hold → Triple 𝓤 (𝓣 .C #step·reader·next) Next
