@@ -35,7 +35,7 @@ says-more b {s} {t} e f (says-same m h) =
 says-more b {s} {t} {u} {v} e f (says-after m h) =
     says-after m (before-same false (b ∷ t) v (b ∷ s) u f e (before-cons false b t s h))
 
--- nothing is a zero
+-- extended by zeros, a zero and nothing are the same
 zero-first : Same false (false ∷ []) []
 zero-first i = sym (same-trimmed (false ∷ []) i)
 
