@@ -24,7 +24,7 @@ abbrev pub quotientsAt : Family → Bits → ℕ → Bool → List ℕ
 quotientsAt F s used z = read F z (leftAt s used z)
 
 -- what is left after n more characters
-pub left-next : (s : Bits) (used n : ℕ) (z : Bool) → turn (drop n (leftAt s used z)) ≡ leftAt s (used + n) (not z)
+left-next : (s : Bits) (used n : ℕ) (z : Bool) → turn (drop n (leftAt s used z)) ≡ leftAt s (used + n) (not z)
 left-next s used n true = rw (drop-map, turn-turn) (drop-drop n used s)
 left-next s used n false = ap turn (drop-drop n used s)
 

@@ -8,7 +8,7 @@ use borrow.Author.Tests.{lt-ltb, le-ltb}
 use Rattle.bits.specs.Strings.{Bits, Same, _≺_}
 use Rattle.bits.specs.Texts.{bitsOfText}
 use Rattle.bits.specs.Order.{same-append, before-first, before-cons, before-same}
-use Rattle.bits.specs.Trim.{same-trimmed}
+use Rattle.bits.specs.Trim.{same-zero}
 use Rattle.families.specs.Published.{words1983}
 use Rattle.fractions.specs.Fractions.{Ratio, _over_}
 use Rattle.keys.specs.Keys.{Canonical, valueOfKey}
@@ -35,17 +35,13 @@ says-more b {s} {t} e f (says-same m h) =
 says-more b {s} {t} {u} {v} e f (says-after m h) =
     says-after m (before-same false (b ∷ t) v (b ∷ s) u f e (before-cons false b t s h))
 
--- extended by zeros, a zero and nothing are the same
-zero-first : Same false (false ∷ []) []
-zero-first i = sym (same-trimmed (false ∷ []) i)
-
 pub says-standing : (s t : Bits) → Says s t (standing s t)
 unfolding standing
 says-standing [] [] = says-same refl (λ i. refl)
 says-standing [] (true ∷ t) = says-before refl (before-first false [] (true ∷ t) refl refl)
-says-standing [] (false ∷ t) = says-more false zero-first (λ i. refl) (says-standing [] t)
+says-standing [] (false ∷ t) = says-more false (same-zero []) (λ i. refl) (says-standing [] t)
 says-standing (true ∷ s) [] = says-after refl (before-first false [] (true ∷ s) refl refl)
-says-standing (false ∷ s) [] = says-more false (λ i. refl) zero-first (says-standing s [])
+says-standing (false ∷ s) [] = says-more false (λ i. refl) (same-zero []) (says-standing s [])
 says-standing (false ∷ s) (false ∷ t) = says-more false (λ i. refl) (λ i. refl) (says-standing s t)
 says-standing (false ∷ s) (true ∷ t) = says-before refl (before-first false (false ∷ s) (true ∷ t) refl refl)
 says-standing (true ∷ s) (false ∷ t) = says-after refl (before-first false (false ∷ t) (true ∷ s) refl refl)
