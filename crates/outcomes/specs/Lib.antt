@@ -6,7 +6,10 @@ pub mod Packing
 pub mod Comparing
 pub mod Cutting
 pub mod Stepping
+pub mod Typing
+pub mod Listing
 pub mod AsPrinted
+pub mod ListingAsPrinted
 pub mod Laws
 pub mod Buffers
 pub mod TextKeys
@@ -15,3 +18,4 @@ pub mod Cuts
 pub mod Standings
 pub mod Steps
 pub mod Rewriting
+pub mod Shapes

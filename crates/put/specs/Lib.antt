@@ -1,4 +1,5 @@
 pub mod Putting
+pub mod Decimals
 pub mod Spread
 pub mod Piecewise
 pub mod KeyText

@@ -1,13 +1,14 @@
-// A block put out as text or as a column. Both give how many characters its key has, and 0, which is no key's length,
-// where the buffer is too short.
+// A block put out as text or as a column, a number in decimal digits. Each gives how many characters its key or its
+// numeral has, and 0, which is the length of none, where the buffer is too short.
 use blocks::Block;
 ghost use mathlib.Core.Path.{_≡_};
 ghost use lib.ListN.{length};
 ghost use Rattle.bits.specs.Strings.{closed};
 ghost use Rattle.blocks.specs.Blocks.{bitsOfBlock};
-ghost use Rattle.put.specs.Putting.{textPut, columnPut};
+ghost use Rattle.put.specs.Putting.{textPut, columnPut, decimalPut};
 
 mod column;
+mod decimal;
 mod text;
 
 // The characters of a block's key: zeros behind are dropped, but the first character stays.
@@ -54,4 +55,16 @@ pub fn put_column(b: Block, out: &mut [u8]) -> usize
     column::put_high(out, high);
     column::put_low(&mut out[8..], low);
     characters_of(b)
+}
+
+// A number in decimal digits at the front of out.
+pub fn put_decimal(n: u32, out: &mut [u8]) -> usize
+    ensures { λ r. ⌜ (r, now (out .exit)) ≡ decimalPut n (now (out .entry)) ⌝ }
+{
+    if out.len() < 10 {
+        return 0;
+    }
+    let count = decimal::places(n);
+    decimal::put_digits(out, n, count);
+    count
 }
