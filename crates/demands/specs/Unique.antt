@@ -19,6 +19,9 @@ use Rattle.pack.specs.Answers.{unpackedAs, unpackedOf, unpacked-told, packedAs,
 use Rattle.step.specs.declared.Stepped.{Stepped}
 use Rattle.compare.specs.Answers.{comparedAs, comparedOf, compared-told}
 use Rattle.cut.specs.Answers.{shortenedAs, shortenedOf, shortened-told}
+use Rattle.fields.specs.declared.Field.{Field}
+use Rattle.list.specs.declared.Listed.{Listed}
+use Rattle.list.specs.Listing.{Lists}
 use Rattle.scan.specs.declared.Place.{Place}
 use Rattle.step.specs.Answers.{startedAs, startedOf, started-told, metAs, metOf, met-told}
 use Rattle.step.specs.Answers.{placeAs, placeIn, place-told, steppedAs, stepFrom}
@@ -61,3 +64,8 @@ step-unique k p r s e f =
     let (met, numbers) = one (r .met) (s .met) (placeAs (r .place)) (placeAs (s .place)) e f in
     let place : r .place ≡ s .place = sym (place-told (r .place)) ∙ ap placeIn numbers ∙ place-told (s .place) in
     λ i. record { met = met i; place = place i }
+
+-- the lister's calls, at a stretch and at the end of the input
+pub list-unique : (s : Field) (input m : List ℕ) {r t : Listed} {e f : List ℕ} → Lists s input m r e
+    → Lists s input m t f → (r ≡ t) × (e ≡ f)
+list-unique s input m a b = (a .answer ∙ sym (b .answer), a .memory ∙ sym (b .memory))
