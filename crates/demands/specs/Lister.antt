@@ -10,13 +10,14 @@ use Rattle.fractions.specs.Fractions.{_over_, lowestTerms, formOf}
 use Rattle.keys.specs.Keys.{keyOf, countOf}
 use Rattle.numerals.specs.Numerals.{allDigits, valueOf, decimalOf}
 use Rattle.lines.specs.Lines.{printed}
-use Rattle.lines.specs.Machines.{run}
+use Rattle.lines.specs.Machines.{stretched, lacking, run}
 use Rattle.lines.specs.Splitting.{Unbroken}
 use Rattle.outcomes.specs.Outcomes.{firstOf}
 use Rattle.outcomes.specs.Refusals.{zeroDenominator}
 use Rattle.outcomes.specs.Typing.{beforeSlash, afterSlash, numeratorOf, denominatorOf, malformed, largeNumeral}
 use Rattle.outcomes.specs.Shapes.{IsRatio}
 use Rattle.outcomes.specs.Listing.{lineAnswer, listing}
+use Rattle.fields.specs.declared.Field.{Field}
 use Rattle.fields.specs.declared.Field.the-variants.{Empty}
 use Rattle.list.specs.Ratios.{ratios}
 
@@ -49,5 +50,8 @@ pub record Lister : Type 0 where
   pub empty : listing [] ≡ []
   pub next : (l t : List ℕ) → Unbroken l → listing (l ++ (10 ∷ t)) ≡ lineAnswer l ++ listing t
   pub last : (c : ℕ) (l : List ℕ) → Unbroken (c ∷ l) → listing (c ∷ l) ≡ lineAnswer (c ∷ l)
-  -- However the input is cut into stretches, and whatever room each has, this is written.
+  -- However the input is cut into stretches, and whatever room each has, this is written; at the end of the input by
+  -- feeding the newline that the last line lacks.
   pub cut : (input : List ℕ) (turns : List (ℕ × ℕ)) → run ratios Empty input turns ≡ listing input
+  pub end : (s : Field) (room : ℕ) → 130 ≤ room
+      → (stretched ratios room s (lacking ratios s)) .text ≡ run ratios s [] []

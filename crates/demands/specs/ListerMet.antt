@@ -1,15 +1,19 @@
 -- What is promised of the lister holds. Each field names its theorem.
 use mathlib.Core.Path.{_≡_, refl}
 use mathlib.Core.List.{List, [], _∷_, _++_, flatten, append-nil}
-use Prim.Native.Nat.{ℕ}
+use Prim.Native.Nat.{ℕ, _≤_}
 use native.Mathlib.Omega.{arith}
 use borrow.Author.Tests.{ne-eqb}
 use Rattle.numerals.specs.Laws.{decimal-digits, decimal-value, decimal-front}
 use Rattle.lines.specs.Lines.{printed, linesOf, answered}
+use Rattle.lines.specs.Machines.{stretched, lacking, run}
+use Rattle.lines.specs.Stretches.{lacking-said}
 use Rattle.lines.specs.Splitting.{Unbroken, line-ended, line-last}
 use Rattle.outcomes.specs.Typing.{numeratorOf, denominatorOf}
 use Rattle.outcomes.specs.Shapes.{ratio-accepted, accepted-ratio}
 use Rattle.outcomes.specs.Listing.{entryOf, acceptedLine, refusedLine, lineAnswer, listing}
+use Rattle.fields.specs.declared.Field.{Field}
+use Rattle.list.specs.Ratios.{ratios}
 use Rattle.list.specs.Lines.{listing-run}
 use Rattle.demands.specs.Lister.{Answered, Lister}
 
@@ -32,6 +36,10 @@ empty : listing [] ≡ []
 unfolding listing answered flatten linesOf
 empty = refl
 
+end : (s : Field) (room : ℕ) → 130 ≤ room → (stretched ratios room s (lacking ratios s)) .text ≡ run ratios s [] []
+unfolding run
+end s room = lacking-said ratios room s
+
 pub lister : Lister
 lister = record {
   numeral = λ n. record { digits = decimal-digits n; value = decimal-value n; front = decimal-front n };
@@ -42,4 +50,5 @@ lister = record {
   next = next;
   last = last;
   cut = listing-run;
+  end = end;
 }

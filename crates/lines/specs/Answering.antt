@@ -25,7 +25,7 @@ module _ (M : Machine) where
       ≡ answersFrom s (cond b ([] ∷ ls) (inFirst c ls))
   unfolding flatten
   from-byte s c ls true = rw from-start
-  from-byte s c [] false = rw (M .fed-some, append-nil)
+  from-byte s c [] false = simp (M .fed-some, append-nil)
   from-byte s c (l ∷ ls) false = refl
 
   -- fed from any state, it goes on with the line that was begun

@@ -62,5 +62,5 @@ accepted-ratio l h =
     let (first, second) = both (isNumeral (beforeSlash l)) (isNumeral (afterSlash l)) (not-false _ h) in
     let t = afterSlash l in
     let size = both (allDigits t) (sizeWithin t) second .1 in
-    let some = ltb-true 0 (length t) (both (ltb 0 (length t)) (ltb (length t) 11) size .0) in
+    let some = ltb-true 0 (length t) (both (ltb 0 (length t)) _ size .0) in
     record { line = slash-between l some; first = first; second = second }
