@@ -4,18 +4,28 @@ use mathlib.Core.List.{List, [], _∷_, _++_, flatten, append-nil}
 use Prim.Native.Nat.{ℕ, _≤_}
 use native.Mathlib.Omega.{arith}
 use borrow.Author.Tests.{ne-eqb}
-use Rattle.numerals.specs.Laws.{decimal-digits, decimal-value, decimal-front}
-use Rattle.lines.specs.Lines.{printed, linesOf, answered}
+use Rattle.numerals.specs.Numerals.{decimalOf}
+use Rattle.numerals.specs.Laws.{decimal-one, decimal-digits, decimal-value, decimal-front}
+use Rattle.lines.specs.Lines.{printed, Unbroken, linesOf, answered}
 use Rattle.lines.specs.Machines.{stretched, lacking, run}
 use Rattle.lines.specs.Stretches.{lacking-said}
-use Rattle.lines.specs.Splitting.{Unbroken, line-ended, line-last}
+use Rattle.lines.specs.Splitting.{line-ended, line-last}
 use Rattle.outcomes.specs.Typing.{numeratorOf, denominatorOf}
 use Rattle.outcomes.specs.Shapes.{ratio-accepted, accepted-ratio}
 use Rattle.outcomes.specs.Listing.{entryOf, acceptedLine, refusedLine, lineAnswer, listing}
+use Rattle.fields.specs.TypedLines.{field-typed}
 use Rattle.fields.specs.declared.Field.{Field}
 use Rattle.list.specs.Ratios.{ratios}
 use Rattle.list.specs.Lines.{listing-run}
-use Rattle.demands.specs.Lister.{Answered, Lister}
+use Rattle.demands.specs.Lister.{Numeral, Answered, Lister}
+
+numeral : (n : ℕ) → Numeral n (decimalOf n)
+numeral n = record {
+  digits = decimal-digits n;
+  value = decimal-value n;
+  front = decimal-front n;
+  zero = λ e. rw e (decimal-one 0 (omega arith));
+}
 
 line : (l : List ℕ) → Answered l (numeratorOf l) (denominatorOf l)
 unfolding lineAnswer acceptedLine refusedLine entryOf printed
@@ -42,10 +52,11 @@ end s room = lacking-said ratios room s
 
 pub lister : Lister
 lister = record {
-  numeral = λ n. record { digits = decimal-digits n; value = decimal-value n; front = decimal-front n };
+  numeral = numeral;
   shape = ratio-accepted;
   no-other = accepted-ratio;
   line = line;
+  settled = field-typed;
   empty = empty;
   next = next;
   last = last;

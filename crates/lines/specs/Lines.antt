@@ -1,6 +1,7 @@
 -- What a program over lines promises: its input is split at newlines, each line is answered, and the answers are
 -- joined.
-use mathlib.Core.Bool.{cond}
+use mathlib.Core.Path.{_≡_}
+use mathlib.Core.Bool.{false, cond}
 use mathlib.Core.List.{List, [], _∷_, map, flatten}
 use Prim.Native.Char.{code}
 use Prim.Native.String.{String, [] as []ᵗ, _∷_ as _∷ᵗ_}
@@ -21,6 +22,11 @@ inFirst c (l ∷ ls) = (c ∷ l) ∷ ls
 unfoldable pub linesOf : List ℕ → List (List ℕ)
 linesOf [] = []
 linesOf (c ∷ t) = cond (eqb c 10) ([] ∷ linesOf t) (inFirst c (linesOf t))
+
+-- no byte of l is a newline
+abbrev pub Unbroken : List ℕ → Type 0
+Unbroken [] = Unit {0}
+Unbroken (c ∷ l) = (eqb c 10 ≡ false) × Unbroken l
 
 -- the output for an input, by the answer to a line
 unfoldable pub answered : (List ℕ → List ℕ) → List ℕ → List ℕ

@@ -1,16 +1,9 @@
 -- How an input is split, in its own words: what stands before a newline is a line; what stands behind the last one is a
 -- line if there is anything.
 use mathlib.Core.Path.{_≡_, refl}
-use mathlib.Core.Bool.{false}
 use mathlib.Core.List.{List, [], _∷_, _++_}
 use Prim.Native.Nat.{ℕ}
-use lib.Dec.{eqb}
-use Rattle.lines.specs.Lines.{linesOf}
-
--- no byte of l is a newline
-abbrev pub Unbroken : List ℕ → Type 0
-Unbroken [] = Unit {0}
-Unbroken (c ∷ l) = (eqb c 10 ≡ false) × Unbroken l
+use Rattle.lines.specs.Lines.{linesOf, Unbroken}
 
 pub line-ended : (l t : List ℕ) → Unbroken l → linesOf (l ++ (10 ∷ t)) ≡ l ∷ linesOf t
 unfolding linesOf

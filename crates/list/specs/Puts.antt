@@ -5,22 +5,13 @@ use Prim.Native.Nat.{ℕ, _+_, _-_, _<_}
 use native.Mathlib.Numerals.{add-one}
 use lib.ListN.{length, take, drop, set, length-append}
 use lib.Seq.{set-split, drop-drop}
-use Rattle.bits.specs.Strings.{closed}
 use Rattle.bits.specs.Texts.{inFront}
 use Rattle.bits.specs.Memory.{front-more, lent-back}
-use Rattle.blocks.specs.Blocks.{bitsOfBlock}
-use Rattle.blocks.specs.declared.Block.{Block}
-use Rattle.fractions.specs.Fractions.{_over_}
-use Rattle.outcomes.specs.Listing.{entryOf}
 
 -- t is put out at the front of m, and its length given
 pub record Puts (t m : List ℕ) (r : ℕ) (e : List ℕ) : Type 0 where
   pub count : r ≡ length t
   pub memory : e ≡ inFront t m
-
--- the entry of p/q, whose key stands in a block
-abbrev pub entryWith : ℕ → ℕ → Block → ℕ → List ℕ
-entryWith p q b n = entryOf (p over q) (closed (bitsOfBlock b)) n
 
 module _ {t m e : List ℕ} {r : ℕ} (p : Puts t m r e) where
   behind-text : (u : List ℕ) → take r e ++ inFront u (drop r e) ≡ inFront (t ++ u) m

@@ -19,8 +19,12 @@ use Rattle.put.specs.Putting.{textPut, decimalPut}
 use Rattle.spell.specs.Callers.{told-key, key-spells, block-closed}
 use Rattle.spell.specs.Spelling.{spelling}
 use Rattle.spell.specs.declared.Spelled.the-variants.{Key}
-use Rattle.list.specs.Puts.{Puts, entryWith}
+use Rattle.list.specs.Puts.{Puts}
 use Rattle.list.specs.Ratios.{answerWith}
+
+-- the entry of p/q, whose key stands in a block
+abbrev pub entryWith : ℕ → ℕ → Block → ℕ → List ℕ
+entryWith p q b n = entryOf (p over q) (closed (bitsOfBlock b)) n
 
 -- a leaf that wants size bytes and has them puts out its text
 room-puts : (size : ℕ) (t m : List ℕ) (r : ℕ) (e : List ℕ) → size ≤ length m

@@ -10,7 +10,8 @@ ghost use Rattle.bits.specs.Texts.{inFront};
 ghost use Rattle.lines.specs.Lines.{printed};
 ghost use Rattle.outcomes.specs.Listing.{marked, refusedLine};
 ghost use Rattle.list.specs.Ratios.{answerOf, answerWith};
-ghost use Rattle.list.specs.Puts.{Puts, entryWith};
+ghost use Rattle.list.specs.Puts.{Puts};
+ghost use Rattle.list.specs.Replies.{entryWith};
 
 // A number, and a mark behind it.
 fn put_number(n: u32, mark: u8, out: &mut [u8]) -> usize

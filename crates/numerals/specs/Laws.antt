@@ -2,7 +2,7 @@
 -- no zero in front, and as many digits as the powers of ten tell.
 use mathlib.Core.Path.{_≡_, refl, sym, ap}
 use mathlib.Core.Bool.{true, cond, _&&_, and-assoc}
-use mathlib.Core.List.{List, [], _∷_, _++_}
+use mathlib.Core.List.{List, [], _∷_, _++_, foldl-append}
 use Prim.Native.Nat.{ℕ, zero, suc, _+_, _/_, _%_, _^_, _≤_, _<_}
 use native.Mathlib.Nat.{one-le-pow}
 use native.Mathlib.Numerals.{add-one}
@@ -11,7 +11,7 @@ use native.Mathlib.Omega.{arith}
 use lib.Dec.{eqb}
 use lib.ListN.{length, getD, length-append}
 use borrow.Author.Tests.{le-leb, ne-eqb}
-use Rattle.numerals.specs.Numerals.{isDigit, allDigits, valueFrom, valueOf, lastBehind, digitsFrom, decimalOf}
+use Rattle.numerals.specs.Numerals.{isDigit, allDigits, valueOf, lastBehind, digitsFrom, decimalOf}
 
 -- enough steps give the same
 digits-enough : (j k n : ℕ) → n ≤ j → n ≤ k → digitsFrom j n ≡ digitsFrom k n
@@ -31,7 +31,7 @@ decimal-one n h =
     λ i. none i ++ ((48 + last i) ∷ [])
 
 -- and of any other
-pub decimal-more : (n : ℕ) → 10 ≤ n → decimalOf n ≡ lastBehind (decimalOf (n / 10)) n
+decimal-more : (n : ℕ) → 10 ≤ n → decimalOf n ≡ lastBehind (decimalOf (n / 10)) n
 unfolding decimalOf digitsFrom
 decimal-more n h =
     let m = n / 10 in rw (digits-enough n (suc m) m (omega arith) (omega arith), ne-eqb m 0 (omega arith))
@@ -49,15 +49,10 @@ module _ (P : ℕ → List ℕ → Type 0) (one : (n : ℕ) → n < 10 → P n (
   pub decimal-induction : (n : ℕ) → P n (decimalOf n)
   decimal-induction n = within (suc n) n (omega arith) (decLt n 10)
 
--- a numeral read on by another
-value-append : (v : ℕ) (s t : List ℕ) → valueFrom v (s ++ t) ≡ valueFrom (valueFrom v s) t
-value-append v [] t = refl
-value-append v (c ∷ s) t = value-append _ s t
-
 pub decimal-value : (n : ℕ) → valueOf (decimalOf n) ≡ n
 decimal-value =
     decimal-induction (λ n t. valueOf t ≡ n) (λ n h. omega arith)
-    (λ n h e. rw (value-append, e) (omega arith))
+    (λ n h e. rw (foldl-append, e) (omega arith))
 
 digits-append : (s t : List ℕ) → allDigits (s ++ t) ≡ (allDigits s && allDigits t)
 digits-append [] t = refl

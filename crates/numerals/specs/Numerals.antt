@@ -1,6 +1,6 @@
 -- Decimal numerals: the bytes 48 to 57, the first digit first.
 use mathlib.Core.Bool.{Bool, true, cond, _&&_}
-use mathlib.Core.List.{List, [], _∷_, _++_}
+use mathlib.Core.List.{List, [], _∷_, _++_, foldl}
 use Prim.Native.Nat.{ℕ, zero, suc, _+_, _-_, _*_, _/_, _%_}
 use lib.Dec.{leb, eqb}
 
@@ -13,8 +13,7 @@ allDigits (c ∷ t) = isDigit c && allDigits t
 
 -- v, read on by the digits of t
 abbrev pub valueFrom : ℕ → List ℕ → ℕ
-valueFrom v [] = v
-valueFrom v (c ∷ t) = valueFrom (v * 10 + (c - 48)) t
+valueFrom v t = foldl (λ w c. w * 10 + (c - 48)) v t
 
 -- the number that a numeral stands for; zeros in front are fine
 abbrev pub valueOf : List ℕ → ℕ

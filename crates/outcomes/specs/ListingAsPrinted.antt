@@ -9,8 +9,8 @@ use Rattle.fractions.specs.Fractions.{_over_, dividedFrom, usual, gcd, lowestTe
 use Rattle.keys.specs.Keys.{keyOf}
 use Rattle.lines.specs.Lines.{printed, linesOf, answered}
 use Rattle.numerals.specs.Numerals.{digitsFrom, decimalOf}
-use Rattle.outcomes.specs.Outcomes.{firstOf}
-use Rattle.outcomes.specs.Typing.{beforeSlash, afterSlash}
+use Rattle.outcomes.specs.Outcomes.{gives, refuses, firstOf}
+use Rattle.outcomes.specs.Typing.{beforeSlash, afterSlash, typedRatio}
 use Rattle.outcomes.specs.Listing.{lineRefusals, entryOf, acceptedLine, refusedLine, lineAnswer, listing}
 
 input : List ℕ
@@ -50,6 +50,12 @@ limit-examples : map (λ l. firstOf (lineRefusals (printed l)))
     ≡ 0 ∷ 10 ∷ 10 ∷ 0 ∷ 7 ∷ 7 ∷ 10 ∷ 7 ∷ 1 ∷ []
 unfolding printed beforeSlash afterSlash
 limit-examples = refl
+
+-- a typed ratio, read: 10 comes before 7, and what is given isn't reduced
+typed-examples : map (λ l. typedRatio (printed l)) ("4294967296/x" ∷ "4294967296/0" ∷ "0314/100" ∷ "7/0" ∷ [])
+    ≡ refuses 10 2 [] ∷ refuses 7 2 [] ∷ gives (314 ∷ 100 ∷ []) [] ∷ gives (7 ∷ 0 ∷ []) [] ∷ []
+unfolding typedRatio printed beforeSlash afterSlash
+typed-examples = refl
 
 -- an empty line, no slash, two slashes, one numeral missing, a carriage return, a sign, a space, a tab
 shape-examples : map (λ l. firstOf (lineRefusals (printed l)))

@@ -1,6 +1,7 @@
 -- A ratio as it is typed: digits, a slash, digits.
-use mathlib.Core.Bool.{Bool, cond, not, _&&_, _||_}
-use mathlib.Core.List.{List, [], _∷_}
+use mathlib.Core.Path.{_≡_}
+use mathlib.Core.Bool.{Bool, true, cond, not, _&&_, _||_}
+use mathlib.Core.List.{List, [], _∷_, _++_}
 use Prim.Native.Nat.{ℕ}
 use lib.Dec.{eqb, ltb}
 use lib.ListN.{length}
@@ -31,9 +32,15 @@ numeratorOf l = valueOf (beforeSlash l)
 abbrev pub denominatorOf : List ℕ → ℕ
 denominatorOf l = valueOf (afterSlash l)
 
--- a numeral, a slash and a numeral
+-- whether a line is a numeral, a slash and a numeral, and that it is one
 abbrev pub isShaped : List ℕ → Bool
 isShaped l = isNumeral (beforeSlash l) && isNumeral (afterSlash l)
+
+-- l is the numerals s and t with a slash between them
+pub record IsRatio (l s t : List ℕ) : Type 0 where
+  pub line : l ≡ s ++ (47 ∷ t)
+  pub first : isNumeral s ≡ true
+  pub second : isNumeral t ≡ true
 
 -- 10: a line malformed
 abbrev pub malformed : List ℕ → Refusal
