@@ -1,15 +1,16 @@
--- The order of texts by their bytes, one that goes on after the other: what the bytes at an index decide where those in
--- front of it are equal.
-use mathlib.Core.Path.{_≡_, _∙_}
-use mathlib.Core.Bool.{cond}
+-- The order of texts by their bytes, one that goes on after the other: what stands behind the front that they share
+-- decides.
+use mathlib.Core.Path.{_≡_, refl, _∙_}
+use mathlib.Core.Bool.{Bool, true, false, cond}
 use mathlib.Core.List.{List, [], _∷_}
-use Prim.Native.Nat.{ℕ, _+_, _≤_, _<_}
-use native.Mathlib.Numerals.{add-one}
+use Prim.Native.Nat.{ℕ, suc, _≤_, _<_}
+use native.Mathlib.Decide.{decLt}
 use native.Mathlib.Omega.{arith}
-use borrow.Author.Tests.{le-ltb, lt-ltb}
-use lib.Dec.{ltb}
+use borrow.Author.Tests.{le-ltb, lt-ltb, eqb-true, eqb-false}
+use lib.Dec.{eqb, ltb}
 use lib.ListN.{length, getD, drop, drop-of-length-le}
 use lib.Seq.{drop-cons}
+use Rattle.load.specs.Fronts.{sharedLength}
 use Rattle.outcomes.specs.Comparing.{before, same, after}
 
 unfoldable pub byteStanding : List ℕ → List ℕ → ℕ
@@ -18,40 +19,55 @@ byteStanding [] (b ∷ k) = before
 byteStanding (a ∷ j) [] = after
 byteStanding (a ∷ j) (b ∷ k) = cond (ltb a b) before (cond (ltb b a) after (byteStanding j k))
 
--- the bytes in front of i are equal: the others decide
-abbrev pub Level : List ℕ → List ℕ → ℕ → Type 0
-Level j k i = byteStanding j k ≡ byteStanding (drop i j) (drop i k)
+-- how texts stand that differ in their first byte, where both have one
+abbrev firstsStanding : List ℕ → List ℕ → ℕ
+firstsStanding [] [] = same
+firstsStanding [] (b ∷ k) = before
+firstsStanding (a ∷ j) [] = after
+firstsStanding (a ∷ j) (b ∷ k) = cond (ltb a b) before after
 
-module _ (j k : List ℕ) (i : ℕ) (level : Level j k i) where
-  module _ (l : i < length j) (m : i < length k) where
-    abbrev a : ℕ
-    a = getD j i 0
+-- the texts stand as those that are left from i on
+abbrev Level : List ℕ → List ℕ → ℕ → Type 0
+Level j k i = byteStanding j k ≡ firstsStanding (drop i j) (drop i k)
 
-    abbrev b : ℕ
-    b = getD k i 0
+-- equal bytes decide nothing, others at once
+level-more : (a b : ℕ) (j k : List ℕ) (i : ℕ) (t : Bool) → eqb a b ≡ t → Level j k i
+    → Level (a ∷ j) (b ∷ k) (cond t (suc i) 0)
+unfolding byteStanding
+level-more a b j k i true h e =
+    let equal = eqb-true a b h in rw (le-ltb a b (omega arith), le-ltb b a (omega arith)) e
+level-more a b j k i false h e = by-size (decLt a b)
+  where
+    by-size : Dec (a < b)
+        → cond (ltb a b) before (cond (ltb b a) after (byteStanding j k)) ≡ cond (ltb a b) before after
+    by-size (yes l) = rw (lt-ltb a b l)
+    by-size (no l) =
+        let differ = eqb-false a b h in
+        let larger : b < a = omega arith in rw (le-ltb a b (omega arith), lt-ltb b a larger)
 
-    at : byteStanding j k
-        ≡ cond (ltb a b) before (cond (ltb b a) after (byteStanding (drop (i + 1) j) (drop (i + 1) k)))
-    unfolding byteStanding
-    at = rw add-one (rw (drop-cons j i 0, drop-cons k i 0) at level)
+level-shared : (j k : List ℕ) → Level j k (sharedLength j k)
+unfolding byteStanding sharedLength
+level-shared [] [] = refl
+level-shared [] (b ∷ k) = refl
+level-shared (a ∷ j) [] = refl
+level-shared (a ∷ j) (b ∷ k) = level-more a b j k (sharedLength j k) (eqb a b) refl (level-shared j k)
 
-    pub level-more : a ≡ b → Level j k (i + 1)
-    level-more e = at ∙ rw (le-ltb a b (omega arith), le-ltb b a (omega arith))
+-- what stands behind the shared front decides
+module _ (j k : List ℕ) (i : ℕ) (e : i ≡ sharedLength j k) where
+  level : Level j k i
+  level = rw (← e) at (level-shared j k)
 
-    pub smaller-first : a < b → byteStanding j k ≡ before
-    smaller-first h = at ∙ rw (lt-ltb a b h)
+  pub smaller-first : i < length j → i < length k → getD j i 0 < getD k i 0 → byteStanding j k ≡ before
+  smaller-first l m h = level ∙ rw (drop-cons j i 0, drop-cons k i 0, lt-ltb (getD j i 0) (getD k i 0) h)
 
-    pub larger-first : b < a → byteStanding j k ≡ after
-    larger-first h = at ∙ rw (le-ltb a b (omega arith), lt-ltb b a h)
+  pub larger-first : i < length j → i < length k → getD k i 0 ≤ getD j i 0 → byteStanding j k ≡ after
+  larger-first l m h = level ∙ rw (drop-cons j i 0, drop-cons k i 0, le-ltb (getD j i 0) (getD k i 0) h)
 
   pub goes-on-first : i < length j → length k ≤ i → byteStanding j k ≡ after
-  unfolding byteStanding
   goes-on-first l m = level ∙ rw (drop-cons j i 0, drop-of-length-le k m)
 
   pub goes-on-second : length j ≤ i → i < length k → byteStanding j k ≡ before
-  unfolding byteStanding
   goes-on-second l m = level ∙ rw (drop-of-length-le j l, drop-cons k i 0)
 
   pub both-end : length j ≤ i → length k ≤ i → byteStanding j k ≡ same
-  unfolding byteStanding
   both-end l m = level ∙ rw (drop-of-length-le j l, drop-of-length-le k m)

@@ -17,12 +17,12 @@ pub enum Compared {
 }
 
 // How two texts stand by their bytes, one that goes on after the other. Of keys without fault, which end in 1, this is
-// the order of the strings extended by zeros; and it stops at the first difference.
+// the order of the strings extended by zeros; and the first character that they don't share decides.
 fn stand(j: &[u8], k: &[u8]) -> Compared
     ensures { λ r. ⌜ comparedAs r ≡ given (byteStanding (now (j .entry)) (now (k .entry)) ∷ []) ⌝ }
 {
-    let mut i = 0;
-    while i < j.len() {
+    let i = load::same_front(j, k);
+    if i < j.len() {
         if k.len() <= i {
             return Compared::After;
         }
@@ -31,10 +31,7 @@ fn stand(j: &[u8], k: &[u8]) -> Compared
         if a < b {
             return Compared::Before;
         }
-        if b < a {
-            return Compared::After;
-        }
-        i += 1;
+        return Compared::After;
     }
     if i < k.len() {
         return Compared::Before;

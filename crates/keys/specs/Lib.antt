@@ -6,7 +6,6 @@ pub mod Back
 pub mod Order
 pub mod Size
 pub mod Places
-pub mod Sameness
 pub mod Cutting
 pub mod Widths
 pub mod Near

@@ -14,7 +14,7 @@ use Rattle.fractions.specs.Lists.{Less, smaller, reversed, finite, Compared, co
 use Rattle.keys.specs.Keys.{spelled, written}
 
 -- strings that differ inside both stand so whatever follows
-pub below-before : (z : Bool) {s t : Bits} (x y : Bits) → Below s t → Before z (s ++ x) (t ++ y)
+below-before : (z : Bool) {s t : Bits} (x y : Bits) → Below s t → Before z (s ++ x) (t ++ y)
 below-before z x y (here {s = s} {t = t}) = before-first z (false ∷ (s ++ x)) (true ∷ (t ++ y)) refl refl
 below-before z x y (there b {s = s} {t = t} h) = before-cons z b (s ++ x) (t ++ y) (below-before z x y h)
 

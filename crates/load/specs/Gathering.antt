@@ -4,19 +4,18 @@ use mathlib.Core.Bool.{Bool, true, false}
 use mathlib.Core.List.{List, [], _∷_, map-append}
 use Prim.Native.Nat.{ℕ, zero, suc, _+_, _*_, _-_, _%_, _/_, _^_, _≤_, _<_}
 use native.Mathlib.Numerals.{add-one}
-use native.Mathlib.Nat.{pow-suc}
 use native.Mathlib.Omega.{arith}
 use mir.Val.{boolByte}
 use lib.Dec.{eqb}
 use lib.ListN.{length, getD, take, drop, length-map}
 use lib.Pow.{pow-mono}
-use lib.Seq.{take-suc, take-all, length-take-le}
+use lib.Seq.{take-suc, take-add, take-all, length-take-le}
 use Rattle.bits.specs.Strings.{Bits}
 use Rattle.bits.specs.Pieces.{drop-map}
 use Rattle.bits.specs.Binary.{digitOf, numberOf, firstBits}
 use Rattle.bits.specs.Texts.{bitsOfText}
 use Rattle.bits.specs.Memory.{lent-part}
-use Rattle.bits.specs.Numbers.{number-append, number-lt}
+use Rattle.bits.specs.Numbers.{number-from, number-append, number-lt}
 use Rattle.bits.specs.Sums.{number-past, number-raised, first-shorter}
 use Rattle.blocks.specs.Blocks.{blockOf}
 use Rattle.blocks.specs.Laws.{block-made}
@@ -36,7 +35,7 @@ text-take (suc n) [] = refl
 text-take (suc n) (c ∷ k) = ap {B = Bits} (λ r. eqb c 49 ∷ r) (text-take n k)
 
 -- a bit as the code has it
-byte-digit : (b : Bool) → boolByte b ≡ digitOf b
+pub byte-digit : (b : Bool) → boolByte b ≡ digitOf b
 byte-digit true = refl
 byte-digit false = refl
 
@@ -54,17 +53,18 @@ raised (b ∷ s) h =
     rw short (number-raised 64 lacking (b ∷ s) (omega arith))
 
 module _ (k : List ℕ) {v : ℕ} (i : ℕ) (g : Gathered k v i) where
-  gathered-lt : i ≤ length k → v < 2 ^ i
-  gathered-lt h =
+  -- up to m characters are up to m bits
+  pub gathered-fits : (m : ℕ) → i ≤ length k → i ≤ m → v < 2 ^ m
+  gathered-fits m h l =
       let size : length (bitsOfText (take i k)) ≡ i = rw length-map (length-take-le i k h) in
-      rw g (rw size at (number-lt (bitsOfText (take i k))))
+      omega (arith, g, rw size at (number-lt (bitsOfText (take i k))), pow-mono {i = i} {j = m} l)
 
-  -- there is room for one bit more
-  pub gathered-fits : i < length k → length k ≤ 64 → 2 * v + 1 < 2 ^ 64
-  gathered-fits h l =
-      let low : v < 2 ^ i = gathered-lt (omega arith) in
-      let room : 2 ^ suc i ≤ 2 ^ 64 = pow-mono {j = 64} (omega arith) in
-      omega (arith, pow-suc 2 i)
+  -- n characters more, of which x is the number
+  pub gathered-group : {t : List ℕ} (n : ℕ) {x : ℕ} → length t ≡ n → t ≡ take n (drop i k)
+      → x ≡ numberOf (bitsOfText t) → Gathered k (v * 2 ^ n + x) (i + n)
+  gathered-group {t} n size e f =
+      let more : length (bitsOfText t) ≡ n = rw length-map size in
+      rw (take-add i n k, ← e, map-append, number-append, ← g, number-from v (bitsOfText t), more, f)
 
   pub gathered-more : (d : ℕ) → i < length k → Gathered k (2 * v + boolByte (eqb (getD k i d) 49)) (i + 1)
   gathered-more d h =

@@ -4,7 +4,7 @@
 use mathlib.Core.Path.{_≡_, refl, sym, _∙_, ap, subst}
 use mathlib.Core.Bool.{Bool, true, false, cond, _||_, true≢false, and-false}
 use mathlib.Core.Logic.{inl, inr}
-use mathlib.Core.List.{List, [], _∷_, _++_}
+use mathlib.Core.List.{List, [], _∷_, _++_, append-nil}
 use Prim.Native.Nat.{ℕ, suc, _+_, _-_, _≤_}
 use native.Mathlib.Numerals.{sub-one}
 use native.Mathlib.Omega.{arith}
@@ -24,12 +24,17 @@ bits-of-text [] = refl
 bits-of-text (true ∷ s) = ap {B = Bits} (λ r. true ∷ r) (bits-of-text s)
 bits-of-text (false ∷ s) = ap {B = Bits} (λ r. false ∷ r) (bits-of-text s)
 
--- no character of a text of bits is strange
-text-plain : (s : Bits) → firstStrange (textOf s) ≡ length s
+-- a text of bits is passed: the first strange character is found behind it
+pub text-passed : (s : Bits) (k : List ℕ) → firstStrange (textOf s ++ k) ≡ length s + firstStrange k
 unfolding firstStrange
-text-plain [] = refl
-text-plain (true ∷ s) = ap suc (text-plain s)
-text-plain (false ∷ s) = ap suc (text-plain s)
+text-passed [] k = omega arith
+text-passed (true ∷ s) k = omega (arith, text-passed s k)
+text-passed (false ∷ s) k = omega (arith, text-passed s k)
+
+-- no character of it is strange
+pub text-plain : (s : Bits) → firstStrange (textOf s) ≡ length s
+unfolding firstStrange
+text-plain s = omega (arith, rw append-nil at (text-passed s []))
 
 -- a text with no strange character is the text of its bits
 text-of-bits : (k : List ℕ) → length k ≤ firstStrange k → textOf (bitsOfText k) ≡ k

@@ -2,19 +2,23 @@
 -- and stands in memory behind the pieces before it.
 use mathlib.Core.Path.{_≡_, refl, sym, _∙_}
 use mathlib.Core.Bool.{false}
-use mathlib.Core.List.{List, [], _∷_, _++_, map-append}
+use mathlib.Core.List.{List, [], _∷_, _++_, map-append, append-assoc}
 use Prim.Native.Nat.{ℕ, zero, suc, _+_, _-_, _*_, _/_, _%_, _^_, _≤_, _<_}
 use native.Mathlib.Nat.{min-le-left}
 use native.Mathlib.Numerals.{add-one}
 use native.Mathlib.Omega.{arith}
 use lib.ListN.{length, take, drop, set, length-append, length-map, length-take, length-drop}
-use lib.Seq.{length-take-le, take-add, drop-drop, set-split}
+use lib.Seq.{length-take-le, take-append-le, drop-append-add, take-take, take-add, drop-drop, set-split}
 use Rattle.bits.specs.Strings.{Bits}
 use Rattle.bits.specs.Binary.{numberOf, firstBits, digitsIn}
 use Rattle.bits.specs.Texts.{charOf, textOf, inFront}
 use Rattle.bits.specs.Memory.{front-more}
-use Rattle.bits.specs.Pieces.{take-first, first-take, length-digits, number-of-digits, first-digits, digits-first}
+use Rattle.bits.specs.Pieces.{take-map, first-take, length-digits, number-of-digits, first-digits, digits-first}
 use Rattle.bits.specs.Sums.{first-lt, first-shorter, first-shifted}
+
+-- memory after n characters of s, from a place on, were written at that place
+abbrev pub partPut : (s : Bits) (at n : ℕ) (m : List ℕ) → List ℕ
+partPut s at n m = take at m ++ inFront (textOf (take n (drop at s))) (drop at m)
 
 -- a loop that puts out s stands at a place: the text up to there is written, and the word holds the rest of s
 pub record PutTo (s : Bits) (start m : List ℕ) (left at : ℕ) : Type 0 where
@@ -26,12 +30,38 @@ pub record PutTo (s : Bits) (start m : List ℕ) (left at : ℕ) : Type 0 where
 
 -- the next n characters written behind those of the first characters of s
 pub text-more : (s : Bits) (at n : ℕ) (start : List ℕ) → at ≤ length s
-    → let m = inFront (textOf (take at s)) start in
-    take at m ++ inFront (textOf (take n (drop at s))) (drop at m) ≡ inFront (textOf (take (at + n) s)) start
+    → partPut s at n (inFront (textOf (take at s)) start) ≡ inFront (textOf (take (at + n) s)) start
 text-more s at n start h =
     rw (take-add, map-append)
     (front-more (textOf (take at s)) (textOf (take n (drop at s))) start at
     (length-map (take at s) charOf ∙ length-take-le at s h))
+
+-- memory past the text at its front is as it was
+front-past : (t m : List ℕ) (n : ℕ) → length t ≤ n → drop n (inFront t m) ≡ drop n m
+front-past t m n h =
+    let whole : length t + (n - length t) ≡ n = omega arith in
+    rw (drop-drop, whole) at (drop-append-add t (drop (length t) m) (n - length t))
+
+-- a word that holds s from a place on: its top n bits as text
+top-text : (s : Bits) (left at n k : ℕ) → n + k ≡ 64 → at + n ≤ length s
+    → left ≡ numberOf (firstBits false 64 (drop at s))
+    → textOf (digitsIn n (left / 2 ^ k)) ≡ textOf (take n (drop at s))
+top-text s left at n k w h e =
+    let within : n ≤ length (drop at s) = rw length-drop (omega arith) in
+    let top : left / 2 ^ k ≡ numberOf (firstBits false n (drop at s)) =
+    rw (e, ← w) (first-shorter false n k (drop at s)) in
+    rw (top, digits-first, first-take false n (drop at s) within)
+
+-- eight bits of a word, from a place on, moved to the top
+pub shifted-text : (word k : ℕ) → word < 2 ^ 64 → k ≤ 56
+    → textOf (digitsIn 8 (word * 2 ^ k % 2 ^ 64 / 2 ^ 56)) ≡ textOf (take 8 (drop k (digitsIn 64 word)))
+shifted-text word k f h =
+    let s = digitsIn 64 word in
+    let long : length s ≡ 64 = length-digits 64 word in
+    let whole : k + (64 - k) ≡ 64 = omega arith in
+    let moved : word * 2 ^ k % 2 ^ 64 ≡ numberOf (firstBits false 64 (drop k s)) =
+    rw (whole, first-digits, number-of-digits 64 word f) at (first-shifted k (64 - k) s (omega arith)) in
+    top-text s (word * 2 ^ k % 2 ^ 64) k 8 56 refl (omega arith) moved
 
 one-character : (b : ℕ) → b < 2 → _≡_ {A = List ℕ} ((48 + b) ∷ []) (textOf (digitsIn 1 b))
 unfolding digitsIn
@@ -64,11 +94,7 @@ module _ {s : Bits} {start m : List ℕ} {left at : ℕ} (p : PutTo s start m le
       → t ≡ textOf (digitsIn n (left / 2 ^ k))
       → PutTo s start (take at m ++ inFront t (drop at m)) (left * 2 ^ n % 2 ^ 64) (at + n)
   put-more n k t w h r e =
-      let within : n ≤ length (drop at s) = rw length-drop (omega arith) in
-      let top : left / 2 ^ k ≡ numberOf (firstBits false n (drop at s)) =
-      rw (p .word, ← w) (first-shorter false n k (drop at s)) in
-      let text : t ≡ textOf (take n (drop at s)) =
-      e ∙ rw (top, digits-first, first-take false n (drop at s) within) in
+      let text : t ≡ textOf (take n (drop at s)) = e ∙ top-text s left at n k w (omega arith) (p .word) in
       put-to s start (at + n) (p .long) r (rw (p .memory, text) (text-more s at n start (omega arith)))
       (rw (p .word) (rw (drop-drop, w) at (first-shifted n k (drop at s) (rw length-drop (omega arith)))))
 
@@ -82,12 +108,25 @@ module _ {s : Bits} {start m : List ℕ} {left at : ℕ} (p : PutTo s start m le
       rw stored
       (put-more 1 63 (v ∷ []) refl (omega arith) (omega arith) (one-character (left / 2 ^ 63) (omega arith)))
 
-  -- the rest of the first count characters
-  pub put-last : (count : ℕ) → at ≤ count → count ≤ 64
-      → take at m ++ inFront (textOf (take (count - at) (digitsIn 64 left))) (drop at m)
-      ≡ inFront (textOf (take count s)) start
-  put-last count h r =
-      let within : count - at ≤ length (drop at s) = rw length-drop (omega arith) in
-      let whole : at + (count - at) ≡ count = omega arith in
-      rw (p .memory, p .word, digits-first, take-first false (count - at) 64 (drop at s) (omega arith) within)
-      (rw whole at (text-more s at (count - at) start (omega arith)))
+  -- the last n characters, of which the first may be put out already: they are the same
+  pub put-last : (k n : ℕ) → k ≤ at → at ≤ k + n → k + n ≤ 64
+      → partPut s k n m ≡ inFront (textOf (take (k + n) s)) start
+  put-last k n h o r =
+      let text : (i : ℕ) (l : Bits) → i ≤ length l → length (textOf (take i l)) ≡ i =
+      λ i l b. length-map (take i l) charOf ∙ length-take-le i l b in
+      let put = textOf (take at s) in
+      let size : length put ≡ at = text at s (omega arith) in
+      let before : take k m ≡ textOf (take k s) =
+      rw (p .memory, take-append-le k put (drop (length put) start) (omega arith), take-map, take-take k at s h) in
+      let behind : drop (k + n) m ≡ drop (k + n) start =
+      rw (p .memory) (front-past put start (k + n) (omega arith)) in
+      rw (
+        text (k + n) s (omega arith),
+        text n (drop k s) (rw length-drop (omega arith)),
+        drop-drop n k m,
+        before,
+        behind,
+        take-add,
+        map-append,
+        append-assoc,
+      )

@@ -43,7 +43,8 @@ pub fn put_text(b: Block, out: &mut [u8]) -> usize
     n
 }
 
-// As a column at the front of out, 12 bytes.
+// As a column at the front of out, 12 bytes. The characters are counted between the two puts: with a branch between
+// them each becomes one store.
 pub fn put_column(b: Block, out: &mut [u8]) -> usize
     ensures { λ r. ⌜ (r, now (out .exit)) ≡ columnPut (bitsOfBlock b) (now (out .entry)) ⌝ }
 {
@@ -53,8 +54,9 @@ pub fn put_column(b: Block, out: &mut [u8]) -> usize
     let high = b.high;
     let low = b.low;
     column::put_high(out, high);
+    let n = characters_of(b);
     column::put_low(&mut out[8..], low);
-    characters_of(b)
+    n
 }
 
 // A number in decimal digits at the front of out.

@@ -21,7 +21,7 @@ use Rattle.families.specs.Digits.{number-digits, number-high}
 use Rattle.families.specs.Measured.{digits-low, word-length, word-number}
 use Rattle.families.specs.Complete.{word-complete}
 use Rattle.scan.specs.declared.Taken.the-variants.{Quotient, Long}
-use Rattle.scan.specs.Taking.{takenFrom, taken-above, taken-within}
+use Rattle.scan.specs.Taking.{takenFrom, taken-many, taken-few}
 use Rattle.scan.specs.Runs.{Counted, numberRead, Front, counted-many, run-counted, word-read}
 
 -- the first bits of a string that begins with p, as a number
@@ -137,7 +137,7 @@ module _ (z : Bool) (s : Bits) {w r : ℕ} (h : ended z s ≡ false) (e : number
     where
       by-size : Dec (k < 32) → Long ≡ takenFrom z s
       by-size (yes m) = absurd (omega (arith, run-few m))
-      by-size (no m) = sym (taken-above z s h (omega (arith, low, pow-mono {i = 32} {j = k} (omega arith))))
+      by-size (no m) = taken-many z s h k low (omega arith)
 
   pub taken-word : r < 32 → Quotient (numberRead w r) (2 * r + 1) ≡ takenFrom z s
   taken-word l = by-size (decLt k 32)
@@ -145,8 +145,6 @@ module _ (z : Bool) (s : Bits) {w r : ℕ} (h : ended z s ≡ false) (e : number
       by-size : Dec (k < 32) → Quotient (numberRead w r) (2 * r + 1) ≡ takenFrom z s
       by-size (yes m) =
           let v : numberRead w r ≡ a = rw (run-few m) (word-read k m (front m)) in
-          let n : 2 * r + 1 ≡ length (wordOf a) =
-          omega (arith, run-few m, word-length (suc k) a (rw sub-one low) high) in
-          (λ i. Quotient (v i) (n i))
-          ∙ sym (taken-within z s h (omega (arith, high, pow-mono {i = suc k} {j = 32} (omega arith))))
+          let n : 2 * r + 1 ≡ 2 * k + 1 = omega (arith, run-few m) in
+          (λ i. Quotient (v i) (n i)) ∙ taken-few z s h k low high m
       by-size (no m) = absurd (omega (arith, run-many (omega arith)))

@@ -6,4 +6,5 @@ pub mod Runs
 pub mod Windows
 pub mod Begun
 pub mod Ended
+pub mod Characters
 pub mod Callers

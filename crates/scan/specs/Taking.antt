@@ -1,18 +1,20 @@
 -- What reading one word from a place gives, by the published form: the quotient and the characters of its word, that
 -- the quotient is above the limit, or that the key ended.
-use mathlib.Core.Path.{_≡_, refl, sym, ap}
+use mathlib.Core.Path.{_≡_, sym, ap}
 use mathlib.Core.Bool.{Bool, true, false, cond}
-use Prim.Native.Nat.{ℕ, _≤_, _<_}
+use Prim.Native.Nat.{ℕ, suc, _+_, _*_, _^_, _≤_, _<_}
+use native.Mathlib.Numerals.{sub-one}
+use native.Mathlib.Omega.{arith}
 use borrow.Author.Tests.{lt-ltb, le-ltb}
 use lib.Dec.{ltb}
 use lib.ListN.{length}
-use Rattle.bits.specs.Strings.{Bits, Same}
+use lib.Pow.{pow-mono}
+use Rattle.bits.specs.Strings.{Bits}
 use Rattle.families.specs.Families.{ended}
 use Rattle.families.specs.Words.{wordOf, firstNumber}
-use Rattle.families.specs.Published.{words1983}
+use Rattle.families.specs.Measured.{word-length}
 use Rattle.keys.specs.Size.{limit}
 use Rattle.keys.specs.Places.{leftAt}
-use Rattle.keys.specs.Sameness.{ended-same, first-same}
 use Rattle.scan.specs.declared.Kind.{Kind}
 use Rattle.scan.specs.declared.Kind.the-variants.{Word, Turned}
 use Rattle.scan.specs.declared.Place.{Place}
@@ -32,31 +34,24 @@ takenFrom z s =
 abbrev pub takenAt : Bits → Place → Taken
 takenAt s p = takenFrom (isTurned (p .due)) (leftAt s (p .used) (isTurned (p .due)))
 
-pub taken-above : (z : Bool) (s : Bits) → ended z s ≡ false → limit < firstNumber z s → takenFrom z s ≡ Long
-unfolding takenFrom
-taken-above z s h l = rw (h, lt-ltb limit (firstNumber z s) l)
+-- the same by the number's size: m digits follow its leading one
+module _ (z : Bool) (s : Bits) (h : ended z s ≡ false) (m : ℕ) (low : 2 ^ m ≤ firstNumber z s) where
+  abbrev a : ℕ
+  a = firstNumber z s
 
-pub taken-within : (z : Bool) (s : Bits) → ended z s ≡ false → firstNumber z s ≤ limit
-    → takenFrom z s ≡ Quotient (firstNumber z s) (length (wordOf (firstNumber z s)))
-unfolding takenFrom
-taken-within z s h l = rw (h, le-ltb limit (firstNumber z s) l)
+  pub taken-many : 32 ≤ m → Long ≡ takenFrom z s
+  unfolding takenFrom
+  taken-many l = rw (h, lt-ltb limit a (omega (arith, pow-mono {i = 32} {j = m} l)))
+
+  pub taken-few : a < 2 ^ suc m → m < 32 → Quotient a (2 * m + 1) ≡ takenFrom z s
+  unfolding takenFrom
+  taken-few high l =
+      let size : length (wordOf a) ≡ 2 * m + 1 = omega (arith, word-length (suc m) a (rw sub-one low) high) in
+      rw (h, le-ltb limit a (omega (arith, pow-mono {i = suc m} {j = 32} (omega arith))), size)
 
 pub taken-ended : (z : Bool) (s : Bits) → ended z s ≡ true → takenFrom z s ≡ End
 unfolding takenFrom
 taken-ended z s h = rw h
-
--- from strings that are the same one word is taken
-pub taken-same : (z : Bool) (s t : Bits) → Same z s t → takenFrom z s ≡ takenFrom z t
-unfolding takenFrom
-taken-same z s t e = by-test (ended z s) refl (ended-same z s t e)
-  where
-    taken : ℕ → Taken
-    taken a = cond (ltb limit a) Long (Quotient a (length (wordOf a)))
-
-    by-test : (b : Bool) → ended z s ≡ b → b ≡ ended z t
-        → cond b End (taken (firstNumber z s)) ≡ cond (ended z t) End (taken (firstNumber z t))
-    by-test true g h = rw (← h)
-    by-test false g h = rw (← h) (ap taken (first-same words1983 z s t e g))
 
 -- what is taken at a place, by the kind that is due there
 pub taken-at : (s : Bits) (p : Place) (k : Kind) → p .due ≡ k

@@ -2,11 +2,12 @@
 // stopped, and how many characters a word took.
 use blocks::Block;
 ghost use mathlib.Core.Path.{_≡_};
+ghost use Rattle.bits.specs.Texts.{bitsOfText};
 ghost use Rattle.blocks.specs.Blocks.{bitsOfBlock};
-ghost use Rattle.outcomes.specs.Refusals.{firstStrange};
 ghost use Rattle.scan.specs.Judging.{judgement};
 ghost use Rattle.scan.specs.Taking.{takenAt};
 
+mod texts;
 mod words;
 
 // The faults of a text key, in the order in which they are judged: 3, 4, 5, 6.
@@ -41,23 +42,6 @@ pub enum Taken {
     End,
 }
 
-// The index of the first character that is neither 0 nor 1, or the length.
-fn first_strange(k: &[u8]) -> usize
-    ensures { λ r. ⌜ r ≡ firstStrange (now (k .entry)) ⌝ }
-{
-    let mut i = 0;
-    while i < k.len() {
-        let c = k[i];
-        if c != 48 {
-            if c != 49 {
-                return i;
-            }
-        }
-        i += 1;
-    }
-    i
-}
-
 // Whether k is a key, or its first fault.
 pub fn judge(k: &[u8]) -> Judged
     ensures { λ r. ⌜ r ≡ judgement (now (k .entry)) ⌝ }
@@ -74,7 +58,7 @@ pub fn judge(k: &[u8]) -> Judged
             at: 96,
         };
     }
-    let at = first_strange(k);
+    let at = load::first_strange(k);
     if at < k.len() {
         return Judged::Faulty {
             fault: Fault::Character,
@@ -114,5 +98,18 @@ pub fn take(b: Block, place: Place) -> Taken
             }
             Taken::End
         }
+    }
+}
+
+// The word due at a place of a text, extended by zeros, read straight from its characters.
+pub fn take_text(k: &[u8], place: Place) -> Taken
+    ensures { λ r. ⌜ r ≡ takenAt (bitsOfText (now (k .entry))) place ⌝ }
+{
+    let used = place.used;
+    let due = place.due;
+    let at = texts::within(k, used);
+    match due {
+        Kind::Word => texts::word(&k[at..], false),
+        Kind::Turned => texts::word(&k[at..], true),
     }
 }

@@ -1,30 +1,24 @@
--- What starting and stepping answer, by what judging and taking gave; and the block of what is left of a key.
-use mathlib.Core.Path.{_≡_, refl, _∙_}
+-- What starting and stepping answer, by what judging and taking gave.
+use mathlib.Core.Path.{_≡_, _∙_}
 use mathlib.Core.Bool.{Bool, true, false, not}
 use mathlib.Core.Logic.{_⊎_}
 use mathlib.Core.List.{List, [], _∷_}
-use Prim.Native.Nat.{ℕ, _+_, _-_, _≤_, _<_}
+use Prim.Native.Nat.{ℕ, _+_, _≤_, _<_}
 use native.Mathlib.Omega.{arith}
 use borrow.Author.Tests.{eq-eqb, ne-eqb, eqb-false, lt-ltb, le-ltb}
 use lib.Dec.{eqb}
-use lib.ListN.{length, getD, take, drop, length-drop, length-map, drop-of-length-le, List·getD-map}
-use Rattle.bits.specs.Strings.{Bits, Same}
+use lib.ListN.{length, getD, List·getD-map}
+use Rattle.bits.specs.Strings.{Bits}
 use Rattle.bits.specs.Texts.{bitsOfText}
-use Rattle.bits.specs.Memory.{lent-part}
-use Rattle.bits.specs.Pieces.{drop-map}
-use Rattle.blocks.specs.Blocks.{bitsOfBlock, blockOf}
-use Rattle.blocks.specs.declared.Block.{Block}
-use Rattle.blocks.specs.Laws.{block-made, block-whole}
 use Rattle.families.specs.Words.{firstNumber}
 use Rattle.keys.specs.Size.{limit}
 use Rattle.keys.specs.Places.{leftAt}
-use Rattle.keys.specs.Sameness.{left-same}
 use Rattle.outcomes.specs.Outcomes.{Outcome, Refusal, gives, refuses, called}
 use Rattle.outcomes.specs.Refusals.{longQuotient, outside}
 use Rattle.outcomes.specs.Cuts.{inside, beyond}
 use Rattle.outcomes.specs.Stepping.{placeOf, startText, quotientAt, found, placeAfter, stepText}
 use Rattle.scan.specs.Judging.{judgement, numberOfFault}
-use Rattle.scan.specs.Taking.{takenFrom, taken-same}
+use Rattle.scan.specs.Taking.{takenFrom}
 use Rattle.scan.specs.Told.{Told, told}
 use Rattle.scan.specs.Callers.{told-faulty, told-key, judged-clear}
 use Rattle.scan.specs.declared.Fault.{Fault}
@@ -63,14 +57,6 @@ takenAs used z Long = refuses 7 2 (placeOf used z)
 takenAs used z End = gives (0 ∷ 0 ∷ []) (placeOf used z)
 
 module _ (k : List ℕ) (used : ℕ) where
-  -- what is left of a key, as it is lent to be loaded
-  pub rest-lent : blockOf (bitsOfText (take (length k - used) (drop used k))) ≡ blockOf (drop used (bitsOfText k))
-  rest-lent = rw (lent-part, drop-map)
-
-  -- past the end there is none
-  pub rest-none : length k ≤ used → record { high = 0; low = 0 } ≡ blockOf (drop used (bitsOfText k))
-  rest-none h = rw (drop-of-length-le (bitsOfText k) {i = used} (rw length-map h)) (block-made [] refl refl)
-
   module _ (z : Bool) where
     abbrev here : List ℕ
     here = placeOf used z
@@ -108,12 +94,6 @@ module _ (k : List ℕ) (used : ℕ) where
       pub step-outside : (used ≡ 0) ⊎ (160 < used) → refuses 8 2 here ≡ stepText k used z
       step-outside h = rw (beyond 160 used h) at (judged .1)
 
-      pub step-taken : 1 ≤ used → used ≤ 160 → (b : Block) → b ≡ blockOf (drop used (bitsOfText k)) → (t : Taken)
-          → t ≡ takenFrom z (leftAt (bitsOfBlock b) 0 z) → takenAs used z t ≡ stepText k used z
-      step-taken some most b loads t takes =
-          let left = drop used (bitsOfText k) in
-          let held : Same false (bitsOfBlock b) left =
-          rw loads (block-whole left (rw (length-drop, length-map) (omega (arith, judged .0)))) in
-          let same = left-same z (bitsOfBlock b) (bitsOfText k) 0 used held in
-          taken-outcome t (told z rest t (takes ∙ taken-same z (leftAt (bitsOfBlock b) 0 z) rest same))
-          ∙ rw (inside 160 used some most) at (judged .1)
+      pub step-taken : 1 ≤ used → used ≤ 160 → (t : Taken) → t ≡ takenFrom z rest → takenAs used z t ≡ stepText k used z
+      step-taken some most t takes =
+          taken-outcome t (told z rest t takes) ∙ rw (inside 160 used some most) at (judged .1)

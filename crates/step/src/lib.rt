@@ -1,5 +1,4 @@
 // Stepping through a text key, a quotient at a time. Between steps a caller keeps the key and its place.
-use blocks::Block;
 use scan::Fault;
 use scan::Judged;
 use scan::Kind;
@@ -8,9 +7,6 @@ use scan::Taken;
 ghost use mathlib.Core.Bool.{not};
 ghost use mathlib.Core.List.{[]};
 ghost use mathlib.Core.Path.{_≡_};
-ghost use lib.ListN.{drop};
-ghost use Rattle.bits.specs.Texts.{bitsOfText};
-ghost use Rattle.blocks.specs.Blocks.{blockOf};
 ghost use Rattle.outcomes.specs.Outcomes.{leaves};
 ghost use Rattle.outcomes.specs.Stepping.{startText};
 ghost use Rattle.scan.specs.Taking.{isTurned};
@@ -73,16 +69,6 @@ fn other(due: Kind) -> Kind
     }
 }
 
-// What is left of a key after the characters used.
-fn rest_of(k: &[u8], used: usize) -> Block
-    ensures { λ r. ⌜ r ≡ blockOf (drop used (bitsOfText (now (k .entry)))) ⌝ }
-{
-    if used < k.len() {
-        return load::load_text(&k[used..]);
-    }
-    Block { high: 0, low: 0 }
-}
-
 // What is met where the place stays.
 fn stays(met: Met, place: Place) -> Stepped
     ensures { λ r. ⌜ r ≡ record { met = met; place = place } ⌝ }
@@ -90,7 +76,7 @@ fn stays(met: Met, place: Place) -> Stepped
     Stepped { met, place }
 }
 
-// The word due at a place of a key. Only what is left of the key there is loaded.
+// The word due at a place of a key.
 pub fn step(k: &[u8], place: Place) -> Stepped
     ensures { λ r. ⌜ steppedAs r ≡ stepFrom (now (k .entry)) place ⌝ }
 {
@@ -105,7 +91,7 @@ pub fn step(k: &[u8], place: Place) -> Stepped
             if 160 < used {
                 return stays(Met::WrongPlace, place);
             }
-            match scan::take(rest_of(k, used), Place { used: 0, due }) {
+            match scan::take_text(k, place) {
                 Taken::Quotient { value, characters } => Stepped {
                     met: Met::Quotient { value },
                     place: Place {

@@ -19,10 +19,10 @@ abbrev text : tie.After-gathered-arg → List ℕ
 text c = c .before .before .before .args .k .now
 
 first-lent : tie.Need-slice-aggregate-gathered
-first-lent c = sym (length-take-le 64 (text c) (omega arith))
+first-lent c = sym (length-take-le _ (text c) (omega arith))
 
 first-requires : tie.Need-gathered-requires-2
-first-requires c κs = omega (arith, length-take 64 (text c))
+first-requires c κs = rw length-take (omega arith)
 
 returns-rest : tie.Need-returns-2
 returns-rest c =

@@ -21,13 +21,14 @@ put-low-requires c κs = simp (length-take, length-drop) (omega arith)
 returns-put : tie.Need-returns-2
 unfolding columnPut
 returns-put c =
-    let low = c .before .before .before in
-    let high = low .before .before .before .before in
+    let low = c .before .before in
+    let count = low .before .before in
+    let high = count .before .before .before in
     let start = high .before .before in
     let args = start .before .before .args in
     let out = args .out .now in
     rw (le-ltb (length out) 12 (start .if1 .left))
-    (ap₂ (λ (n : ℕ) (l : List ℕ). (n, l)) (c .characters-of .ensures)
+    (ap₂ (λ (n : ℕ) (l : List ℕ). (n, l)) (count .characters-of .ensures)
     (words-front (args .b) out (search needs) (search needs) (high .put-high .ensures) (low .put-low .ensures)))
 
 pub put-column-spec : {M : Type 1} → statement M
@@ -36,10 +37,10 @@ put-column-spec =
     (tie.spec
     returns-short
     (λ c κs. search needs)
+    (λ c κs. search needs)
     (λ c. search needs)
     (λ c. search needs)
     (λ c. search needs)
     put-low-requires
-    (λ c κs. search needs)
     (λ c. search needs)
     returns-put)

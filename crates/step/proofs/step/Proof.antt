@@ -27,18 +27,17 @@ returns-none c = rw (c .stays2 .ensures) (step-outside _ _ _ (is-key (c .before 
 returns-far : tie.Need-returns-2
 returns-far c = rw (c .stays3 .ensures) (step-outside _ _ _ (is-key (c .before .before .before)) (inr (omega arith)))
 
-taken-as : (c : tie.After-take) → let start = c .before .before .before .before .before .before .before .before in
+taken-as : (c : tie.After-take-text) → let start = c .before .before .before .before .before .before .before in
     let used = start .args .place .used in
     let z = isTurned (start .args .place .due) in
-    takenAs used z (c .take .result) ≡ stepText (now (start .args .k)) used z
+    takenAs used z (c .take-text .result) ≡ stepText (now (start .args .k)) used z
 taken-as c =
-    step-taken _ _ _ (is-key (c .before .before .before .before)) (omega arith) (omega arith) _
-    (c .before .rest-of .ensures) _ (c .take .ensures)
+    step-taken _ _ _ (is-key (c .before .before .before)) (omega arith) (omega arith) _ (c .take-text .ensures)
 
-fits : tie.Need-add-t19
+fits : tie.Need-add-t17
 fits c =
     let x = c .before in
-    omega (arith, taken-size _ _ (sym (x .value .given .1) ∙ x .before .before .take .ensures) .1)
+    omega (arith, taken-size _ _ (sym (x .value .given .1) ∙ x .before .before .take-text .ensures) .1)
 
 returns-quotient : tie.Need-returns-4
 returns-quotient c =
@@ -67,7 +66,6 @@ step-spec =
     returns-none
     (λ c κs. search needs)
     returns-far
-    (λ c κs. search needs)
     (λ c κs. search needs)
     (λ c. search needs)
     fits

@@ -1,14 +1,14 @@
 -- The invariant is that of `put_few`. A turn puts out eight bits: the part that was lent has come back with their
--- characters at its front, and so it is with the last few.
-use mathlib.Core.Path.{refl}
-use Prim.Native.Nat.{_-_, _≤_}
+-- characters at its front. Behind the loop all are put out, or the last eight go over some that are.
+use mathlib.Core.Path.{_≡_, refl, _∙_}
+use Prim.Native.Nat.{_+_, _-_, _≤_}
 use native.Mathlib.Omega.{arith}
-use lib.ListN.{take, length-drop}
+use lib.ListN.{length-drop}
+use borrow.Author.Needs.{needs}
 use Rattle.bits.specs.Binary.{digitsIn}
-use Rattle.bits.specs.Texts.{textOf}
 use Rattle.bits.specs.Memory.{lent-part, lent-back}
 use Rattle.put.specs.Piecewise.{PutTo, put-none, put-more, put-last}
-use Rattle.put.specs.Spread.{lowBytes}
+use Rattle.blocks.specs.Bytewise.{lowBytes}
 use Rattle.put.proofs.text.put_bits.Statement.{statement}
 use Rattle.put.proofs.text.put_bits.Tie as tie
 
@@ -19,7 +19,9 @@ abbrev μ-loop : tie.MeasureT-loop
 μ-loop out₀ word count left₀ at₀ out left at = count - at
 
 loop-holds : tie.Need-loop-holds Inv-loop μ-loop
-loop-holds c = (omega arith, put-none (c .before .args .word) (c .before .args .out .now) (c .before .fits .word .fits))
+loop-holds c =
+    let start = c .before .before in
+    (omega arith, put-none (start .args .word) (start .args .out .now) (start .fits .word .fits))
 
 put-eight-requires : tie.Need-put-eight-requires Inv-loop μ-loop
 put-eight-requires c κs = rw (lent-part, length-drop) (omega arith)
@@ -28,24 +30,26 @@ loop-again : tie.Need-loop-again Inv-loop μ-loop
 loop-again c =
     let here = c .before .before .before .before .before .before in
     let eight = c .before .before .put-eight in
-    let bytes = lowBytes (c .before .before .before .spread .result) in (
+    let bytes = lowBytes 8 (c .before .before .before .spread .result) in (
       omega arith,
       rw (lent-back bytes (here .loop .out) (here .loop .at) (eight .ensures))
           (put-more (here .loop .inv .1) 8 56 bytes refl (omega arith)
           (omega arith) (c .before .before .before .spread .ensures)),
     )
 
-put-few-requires : tie.Need-put-few-requires Inv-loop μ-loop
-put-few-requires c κs = (omega arith, rw (lent-part, length-drop) (omega arith))
+returns-last : tie.Need-returns-2 Inv-loop μ-loop
+returns-last c =
+    let here = c .before .before .before .before .before .before in
+    let count = here .before .before .before .args .count in
+    let whole : count - 8 + 8 ≡ count = omega arith in
+    c .before .before .put-last .ensures
+    ∙ rw whole at (put-last (here .loop .inv .1) (count - 8) 8 (omega arith) (omega arith) (omega arith))
 
-returns : tie.Need-returns Inv-loop μ-loop
-returns c =
-    let here = c .before .before .before .before .before in
-    let few = c .before .before .put-few in
-    let count = here .before .before .args .count in
-    let rest = textOf (take (count - here .loop .at) (digitsIn 64 (here .loop .left))) in
-    rw (lent-back rest (here .loop .out) (here .loop .at) (few .ensures))
-    (put-last (here .loop .inv .1) count (omega arith) (omega arith))
+returns-whole : tie.Need-returns-3 Inv-loop μ-loop
+returns-whole c =
+    let here = c .before .before in
+    let whole : here .loop .at ≡ here .before .before .before .args .count = omega arith in
+    rw whole at (here .loop .inv .1 .memory)
 
 pub put-bits-spec : {M : Type 1} → statement M
 put-bits-spec =
@@ -53,6 +57,9 @@ put-bits-spec =
     (tie.spec
     Inv-loop
     μ-loop
+    (λ c κs. search needs)
+    (λ c. search needs)
+    (λ c. search needs)
     loop-holds
     (λ c. omega arith)
     (λ c. omega arith)
@@ -63,10 +70,8 @@ put-bits-spec =
     (λ c. omega arith)
     (λ c. omega arith)
     loop-again
-    (λ c. omega arith)
-    (λ c. omega arith)
-    (λ c. omega arith)
-    (λ c. omega arith)
-    put-few-requires
-    (λ c. omega arith)
-    returns)
+    (λ c κs. search needs)
+    (λ c. search needs)
+    returns-last
+    (λ c. search needs)
+    returns-whole)

@@ -4,7 +4,8 @@ use Prim.Native.Nat.{_≤_}
 use native.Mathlib.Omega.{arith}
 use lib.Bits.{bitAnd, and-le-r}
 use borrow.Author.Needs.{needs}
-use Rattle.put.specs.Spread.{ones, copies, spread-characters}
+use Rattle.blocks.specs.Bytewise.{ones}
+use Rattle.put.specs.Spread.{copies, spread-characters}
 use Rattle.put.proofs.text.spread.Statement.{statement}
 use Rattle.put.proofs.text.spread.Tie as tie
 

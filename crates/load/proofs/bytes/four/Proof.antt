@@ -2,8 +2,8 @@
 use native.Mathlib.Omega.{arith}
 use borrow.Author.Needs.{needs}
 use Rattle.load.specs.Bytes.{bytes-four}
-use Rattle.load.proofs.four.Statement.{statement}
-use Rattle.load.proofs.four.Tie as tie
+use Rattle.load.proofs.bytes.four.Statement.{statement}
+use Rattle.load.proofs.bytes.four.Tie as tie
 
 returns : tie.Need-returns
 returns c =
