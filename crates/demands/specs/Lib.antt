@@ -5,4 +5,5 @@ pub mod Met
 pub mod Lister
 pub mod ListerMet
 pub mod Unique
+pub mod UniqueInC
 pub mod Table

@@ -3,6 +3,7 @@
 -- answer. (The contract of a function without refusals is an equation for its result already; the earlier of two, which
 -- gives no number, has its own theorem beside its contract, `compare`, file Earlier.)
 use mathlib.Core.Path.{_≡_, sym, _∙_, ap}
+use mathlib.Core.Bool.{Bool}
 use mathlib.Core.List.{List}
 use Prim.Native.Nat.{ℕ}
 use Rattle.outcomes.specs.Laws.{Determined, determined}
@@ -11,7 +12,7 @@ use Rattle.outcomes.specs.Reading.{readText, readColumn, reduce}
 use Rattle.outcomes.specs.Packing.{columnToText, textToColumn}
 use Rattle.outcomes.specs.Comparing.{compareText}
 use Rattle.outcomes.specs.Cutting.{cutText}
-use Rattle.outcomes.specs.Stepping.{startText}
+use Rattle.outcomes.specs.Stepping.{startText, stepText}
 use Rattle.reduce.specs.Answers.{reducedAs, reducedOf, reduced-told}
 use Rattle.write.specs.Answers.{writtenAs, writtenOf, written-told}
 use Rattle.read.specs.Answers.{textReadAs, textReadOf, text-read-told, columnReadAs, columnReadOf, column-read-told}
@@ -22,9 +23,8 @@ use Rattle.cut.specs.Answers.{shortenedAs, shortenedOf, shortened-told}
 use Rattle.fields.specs.declared.Field.{Field}
 use Rattle.list.specs.declared.Listed.{Listed}
 use Rattle.list.specs.Listing.{Lists}
-use Rattle.scan.specs.declared.Place.{Place}
 use Rattle.step.specs.Answers.{startedAs, startedOf, started-told, metAs, metOf, met-told}
-use Rattle.step.specs.Answers.{placeAs, placeIn, place-told, steppedAs, stepFrom}
+use Rattle.step.specs.Answers.{placeAs, placeIn, place-told, steppedAs}
 
 pub write-text-unique : (p q : ℕ) (m : List ℕ) → Determined writtenAs (writeText p q m)
 write-text-unique p q m = determined writtenAs writtenOf written-told (writeText p q m)
@@ -57,10 +57,10 @@ pub start-unique : (k : List ℕ) → Determined startedAs (startText k)
 start-unique k = determined startedAs startedOf started-told (startText k)
 
 -- what a step leaves is the place handed back, as numbers, which tell the place
-pub step-unique : (k : List ℕ) (p : Place) (r s : Stepped) → steppedAs r ≡ stepFrom k p → steppedAs s ≡ stepFrom k p
-    → r ≡ s
-step-unique k p r s e f =
-    let one : Determined metAs (stepFrom k p) = determined metAs metOf met-told (stepFrom k p) in
+pub step-unique : (k : List ℕ) (used : ℕ) (z : Bool) (r s : Stepped) → steppedAs r ≡ stepText k used z
+    → steppedAs s ≡ stepText k used z → r ≡ s
+step-unique k used z r s e f =
+    let one : Determined metAs (stepText k used z) = determined metAs metOf met-told (stepText k used z) in
     let (met, numbers) = one (r .met) (s .met) (placeAs (r .place)) (placeAs (s .place)) e f in
     let place : r .place ≡ s .place = sym (place-told (r .place)) ∙ ap placeIn numbers ∙ place-told (s .place) in
     λ i. record { met = met i; place = place i }

@@ -1,0 +1,14 @@
+-- The struct says what the call behind it answered.
+use borrow.Author.Needs.{needs}
+use Rattle.lcf.specs.Laws.{same-outcome}
+use Rattle.lcf.proofs.lcf_text_to_column.Statement.{statement}
+use Rattle.lcf.proofs.lcf_text_to_column.Tie as tie
+
+pub lcf-text-to-column-spec : {M : Type 1} → statement M
+lcf-text-to-column-spec =
+    tie.close
+    (tie.spec
+    (λ c κs. search needs)
+    (λ c κs. search needs)
+    (λ c. search needs)
+    (λ c. search same-outcome))
