@@ -1,6 +1,5 @@
-/* The ratio lister in plain C: the yardstick for the proved one. Same input, same output, same buffers.
-   Build it with gcc -O2 for the machine that the proved program is built for, x86-64. */
-#include <stdint.h>
+/* The ratio lister in plain C: the yardstick for the proved one. Same input, same output, same buffers. */
+#include "plain_spell.h"
 #include <string.h>
 #include <unistd.h>
 
@@ -18,27 +17,6 @@ struct line {
     uint64_t first, value;
 };
 
-/* The key so far in two words, right-aligned. */
-struct key {
-    uint64_t high, low;
-    unsigned bits;
-};
-
-static struct key append(struct key s, uint64_t word, unsigned n) {
-    return (struct key){s.high << n | s.low >> (64 - n), s.low << n | word, s.bits + n};
-}
-
-/* The word of a number of k binary digits is a + 2^(2k-1) - 3 * 2^(k-1), in 2k-1 bits; turned, 2^(2k-1) - 1 less it. */
-static struct key append_word(struct key s, uint32_t a) {
-    unsigned k = 32 - __builtin_clz(a);
-    return append(s, a + ((uint64_t)1 << (2 * k - 1)) - ((uint64_t)3 << (k - 1)), 2 * k - 1);
-}
-
-static struct key append_turned(struct key s, uint32_t a) {
-    unsigned k = 32 - __builtin_clz(a);
-    return append(s, ((uint64_t)3 << (k - 1)) - 1 - a, 2 * k - 1);
-}
-
 static char *put_decimal(char *to, uint32_t n) {
     char text[10];
     char *from = text + 10;
@@ -51,32 +29,14 @@ static char *put_decimal(char *to, uint32_t n) {
 }
 
 /* Eight characters at a time; the last group may go past the key, within the room that the caller keeps. */
-static char *put_group(char *to, uint64_t byte) {
-    uint64_t text = (byte * 0x0040201008040201 >> 7 & 0x0001010101010101) + ((byte & 1) << 56) + 0x3030303030303030;
-    memcpy(to, &text, 8);
-    return to + 8;
-}
-
-static char *put_key(char *to, struct key s) {
-    /* zeros behind are dropped, but the first character stays */
-    unsigned zeros = s.bits - 1;
-    if (s.low)
-        zeros = __builtin_ctzll(s.low);
-    else if (s.high)
-        zeros = 64 + __builtin_ctzll(s.high);
-    char *end = to + (s.bits - zeros);
-    uint64_t high, low;
-    if (s.bits <= 64) {
-        high = s.low << (64 - s.bits);
-        low = 0;
-    } else {
-        high = s.high << (128 - s.bits) | s.low >> (s.bits - 64);
-        low = s.low << (128 - s.bits);
+static char *put_key(char *to, struct block b) {
+    char *end = to + characters_of(b);
+    uint64_t bits = b.high;
+    for (int i = 0; to < end; i++, to += 8, bits <<= 8) {
+        if (i == 8) bits = (uint64_t)b.low << 32;
+        uint64_t group = spread(bits);
+        memcpy(to, &group, 8);
     }
-    for (int i = 0; i < 8 && to < end; i++, high <<= 8)
-        to = put_group(to, high >> 56);
-    for (; to < end; low <<= 8)
-        to = put_group(to, low >> 56);
     return end;
 }
 
@@ -88,26 +48,13 @@ static char *refuse(char *to, uint32_t number) {
 }
 
 static char *accept(char *to, uint32_t p, uint32_t q) {
-    uint32_t d = q, r = p % q, a = p / q;
-    struct key s = {0, a != 0, 1};
-    unsigned quotients = 0;
-    if (a) {
-        s = append_word(s, a);
-        quotients = 1;
-    }
-    while (r) {
-        uint32_t t = (d - 1) % r + 1;
-        s = append_turned(s, (d - 1) / r);
-        s = append_word(s, r / t);
-        d = t;
-        r = r % t;
-        quotients += 2;
-    }
-    to = put_decimal(to, p / d);
+    uint32_t quotients, divisor;
+    struct block key = spell(p, q, &quotients, &divisor);
+    to = put_decimal(to, p / divisor);
     *to++ = '/';
-    to = put_decimal(to, q / d);
+    to = put_decimal(to, q / divisor);
     *to++ = ' ';
-    to = put_key(to, s);
+    to = put_key(to, key);
     *to++ = ' ';
     to = put_decimal(to, quotients);
     *to++ = '\n';

@@ -1,78 +1,18 @@
-/* Writing in plain C. The word of a number of k + 1 binary digits is a + 2^(2k+1) - 3 * 2^k in 2k + 1 bits, the turned
-   word 3 * 2^k - 1 - a. */
+/* Writing in plain C. */
 #include "plain.h"
+#include "plain_spell.h"
 #include <string.h>
-
-/* A string of bits as a number in two machine words. */
-struct line {
-    uint64_t high, low;
-    unsigned bits;
-};
-
-/* A key's 96 bits, from the top of high down to the lowest of low. */
-struct block {
-    uint64_t high;
-    uint32_t low;
-};
-
-static inline struct line append(struct line s, uint64_t word, unsigned n) {
-    return (struct line){s.high << n | s.low >> (64 - n), (s.low << n) + word, s.bits + n};
-}
-
-static inline struct line append_word(struct line s, uint32_t a) {
-    unsigned k = 31 - __builtin_clz(a), n = 2 * k + 1;
-    return append(s, a + ((uint64_t)1 << n) - ((uint64_t)3 << k), n);
-}
-
-static inline struct line append_turned(struct line s, uint32_t a) {
-    unsigned k = 31 - __builtin_clz(a);
-    return append(s, ((uint64_t)3 << k) - 1 - a, 2 * k + 1);
-}
-
-/* One Euclid: quotients don't depend on common factors. */
-static inline struct block spell(uint32_t p, uint32_t q, uint32_t *quotients) {
-    struct line s = {0, 0, 1};
-    uint32_t d = q, r = p, count = 0;
-    if (p >= q) {
-        s = append_word((struct line){0, 1, 1}, p / q);
-        r = p % q;
-        count = 1;
-    }
-    while (r) {
-        uint32_t t = (d - 1) % r + 1;
-        s = append_turned(s, (d - 1) / r);
-        s = append_word(s, r / t);
-        d = t;
-        r = r % t;
-        count += 2;
-    }
-    *quotients = count;
-    if (s.bits <= 64) return (struct block){s.low << (64 - s.bits), 0};
-    return (struct block){s.high << (128 - s.bits) | s.low >> (s.bits - 64), s.low << (128 - s.bits) >> 32};
-}
-
-/* Zeros behind are dropped, but the first character stays. */
-static inline size_t characters_of(struct block b) {
-    if (b.low) return 96 - __builtin_ctz(b.low);
-    return b.high ? 64 - __builtin_ctzll(b.high) : 1;
-}
 
 struct lcf_written plain_write_column(uint32_t numerator, uint32_t denominator, uint8_t *out, size_t length) {
     if (denominator == 0) return (struct lcf_written){.refusal = LCF_ZERO_DENOMINATOR};
     if (length < LCF_COLUMN_BYTES) return (struct lcf_written){.refusal = LCF_SHORT_BUFFER};
-    uint32_t quotients;
-    struct block b = spell(numerator, denominator, &quotients);
+    uint32_t quotients, divisor;
+    struct block b = spell(numerator, denominator, &quotients, &divisor);
     uint64_t high = __builtin_bswap64(b.high);
     uint32_t low = __builtin_bswap32(b.low);
     memcpy(out, &high, 8);
     memcpy(out + 8, &low, 4);
     return (struct lcf_written){0, quotients, characters_of(b)};
-}
-
-/* The top eight bits as characters. The product has a copy of them at every ninth place, so that the bit wanted in each
-   of its bytes stands at the same place there. */
-static inline uint64_t spread(uint64_t bits) {
-    return ((bits >> 56) * 0x8040201008040201 >> 7 & 0x0101010101010101) + 0x3030303030303030;
 }
 
 /* The first n of 64 bits as characters. */
@@ -88,8 +28,8 @@ static inline void put(uint8_t *out, uint64_t bits, size_t n) {
 struct lcf_written plain_write_text(uint32_t numerator, uint32_t denominator, uint8_t *out, size_t length) {
     if (denominator == 0) return (struct lcf_written){.refusal = LCF_ZERO_DENOMINATOR};
     if (length < LCF_TEXT_BYTES) return (struct lcf_written){.refusal = LCF_SHORT_BUFFER};
-    uint32_t quotients;
-    struct block b = spell(numerator, denominator, &quotients);
+    uint32_t quotients, divisor;
+    struct block b = spell(numerator, denominator, &quotients, &divisor);
     size_t n = characters_of(b);
     put(out, b.high, n < 64 ? n : 64);
     if (n > 64) put(out + 64, (uint64_t)b.low << 32, n - 64);

@@ -1,5 +1,4 @@
 -- Each way is what the number and the standing say.
-use borrow.Author.Needs.{needs}
 use borrow.Author.Tests.{eq-eqb, ne-eqb}
 use Rattle.lcf.proofs.keys.earlier.Statement.{statement}
 use Rattle.lcf.proofs.keys.earlier.Tie as tie
