@@ -1,4 +1,5 @@
 pub mod Ordered
+pub mod Columns
 pub mod Again
 pub mod Demands
 pub mod Met
