@@ -8,4 +8,6 @@ pub mod Numbers
 pub mod Pieces
 pub mod Sums
 pub mod Columns
+pub mod Pasting
+pub mod Moving
 pub mod Memory

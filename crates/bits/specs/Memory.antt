@@ -1,13 +1,14 @@
 -- Lent memory: a part that is lent and comes back, and text at the front.
 use mathlib.Core.Path.{_≡_}
-use mathlib.Core.List.{List, _++_, append-assoc, append-nil}
+use mathlib.Core.List.{List, _++_, append-nil}
 use Prim.Native.Nat.{ℕ, _+_, _-_, _≤_, _<_}
 use native.Mathlib.Nat.{zero-add}
 use native.Mathlib.Numerals.{add-one}
 use native.Mathlib.Omega.{arith}
-use lib.ListN.{length, getD, take, drop, set, length-append, length-drop, drop-of-length-le}
-use lib.Seq.{length-take-le, take-all, take-at, drop-at, drop-drop, sets, sets-eq, paste-suc}
-use Rattle.bits.specs.Texts.{inFront}
+use lib.ListN.{length, getD, take, drop, set, length-drop, drop-of-length-le}
+use lib.Seq.{length-take-le, take-all, sets, sets-eq, paste-suc}
+use Rattle.bits.specs.Texts.{inFront, pasted}
+use Rattle.bits.specs.Pasting.{pasted-more}
 
 -- stores one after the other, from the front on
 pub stored-front : (t m : List ℕ) → length t ≤ length m → sets m 0 t ≡ inFront t m
@@ -22,10 +23,8 @@ stored-more k m i d h l =
 
 -- text behind text
 pub front-more : (t u m : List ℕ) (n : ℕ) → length t ≡ n
-    → take n (inFront t m) ++ inFront u (drop n (inFront t m)) ≡ inFront (t ++ u) m
-front-more t u m n e =
-    let rest = drop (length t) m in
-    rw (take-at t rest n e, drop-at t rest n e, drop-drop, length-append, append-assoc)
+    → pasted u n (inFront t m) ≡ inFront (t ++ u) m
+front-more t u m n e = rw zero-add at (pasted-more 0 m (omega arith) t u n e)
 
 -- memory from a place on, as it is lent
 pub lent-part : (m : List ℕ) (at : ℕ) → take (length m - at) (drop at m) ≡ drop at m
@@ -33,7 +32,7 @@ lent-part m at = take-all (length m - at) (drop at m) (omega (arith, length-drop
 
 -- the whole, where that part has come back with a text at its front
 pub lent-back : (t m : List ℕ) {part : List ℕ} (at : ℕ) → part ≡ inFront t (take (length m - at) (drop at m))
-    → take at m ++ (part ++ drop (length m - at) (drop at m)) ≡ take at m ++ inFront t (drop at m)
+    → take at m ++ (part ++ drop (length m - at) (drop at m)) ≡ pasted t at m
 lent-back t m at e =
     let h : length (drop at m) ≤ length m - at = omega (arith, length-drop at m) in
     rw (drop-of-length-le (drop at m) h, append-nil, e, lent-part)

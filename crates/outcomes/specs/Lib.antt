@@ -6,6 +6,7 @@ pub mod Packing
 pub mod Comparing
 pub mod Cutting
 pub mod Stepping
+pub mod Stocking
 pub mod Typing
 pub mod Listing
 pub mod AsPrinted
@@ -16,6 +17,8 @@ pub mod TextKeys
 pub mod RoundTrips
 pub mod Cuts
 pub mod Standings
+pub mod FrontOrder
+pub mod BlockOrder
 pub mod Steps
 pub mod Rewriting
 pub mod Shapes

@@ -1,19 +1,21 @@
--- Comparing follows the order of the ratios by cross products.
+-- Comparing follows the order of the ratios by cross products, and so do keys over any family.
 use mathlib.Core.Path.{_≡_, refl, sym, _∙_, ap}
-use mathlib.Core.Bool.{Bool, true, false}
+use mathlib.Core.Bool.{Bool, true, false, cond}
 use mathlib.Core.List.{List, [], _∷_}
-use Prim.Native.Nat.{ℕ, _*_, _<_}
+use Prim.Native.Nat.{ℕ, _*_, _≤_, _<_}
 use native.Mathlib.Omega.{arith}
 use borrow.Author.Tests.{lt-ltb, le-ltb}
+use lib.Dec.{ltb}
 use Rattle.bits.specs.Strings.{Bits, Same, _≺_}
 use Rattle.bits.specs.Texts.{bitsOfText}
 use Rattle.bits.specs.Order.{same-append, before-first, before-cons, before-same}
 use Rattle.bits.specs.Trim.{same-zero}
+use Rattle.families.specs.Families.{Family}
 use Rattle.families.specs.Published.{words1983}
-use Rattle.fractions.specs.Fractions.{Ratio, _over_}
-use Rattle.keys.specs.Keys.{Canonical, valueOfKey}
-use Rattle.keys.specs.Back.{canonical-same}
-use Rattle.keys.specs.Order.{value-order}
+use Rattle.fractions.specs.Fractions.{_over_}
+use Rattle.keys.specs.Keys.{keyOf, Canonical, valueOfKey}
+use Rattle.keys.specs.Back.{canonical-same, key-canonical}
+use Rattle.keys.specs.Order.{value-order, key-order, key-equal}
 use Rattle.outcomes.specs.Outcomes.{gives}
 use Rattle.outcomes.specs.Refusals.{keyRefusals}
 use Rattle.outcomes.specs.Laws.{Clear, clear-called}
@@ -47,37 +49,45 @@ says-standing (false ∷ s) (true ∷ t) = says-before refl (before-first false 
 says-standing (true ∷ s) (false ∷ t) = says-after refl (before-first false (false ∷ t) (true ∷ s) refl refl)
 says-standing (true ∷ s) (true ∷ t) = says-more true (λ i. refl) (λ i. refl) (says-standing s t)
 
-number-before : (x y : ℕ) → x < y → numberStanding x y ≡ before
-number-before x y h = rw (lt-ltb x y h)
+-- by two numbers, and by r where they are equal; how two numbers stand is this with `same` for r
+abbrev pub decided : ℕ → ℕ → ℕ → ℕ
+decided x y r = cond (ltb x y) before (cond (ltb y x) after r)
 
-number-same : (x y : ℕ) → x ≡ y → numberStanding x y ≡ same
-number-same x y h = rw (le-ltb x y (omega arith), le-ltb y x (omega arith))
+pub decided-before : (x y r : ℕ) → x < y → decided x y r ≡ before
+decided-before x y r h = rw (lt-ltb x y h)
 
-number-after : (x y : ℕ) → y < x → numberStanding x y ≡ after
-number-after x y h = rw (le-ltb x y (omega arith), lt-ltb y x h)
+pub decided-after : (x y r : ℕ) → y < x → decided x y r ≡ after
+decided-after x y r h = rw (le-ltb x y (omega arith), lt-ltb y x h)
+
+pub decided-same : (x y r : ℕ) → x ≡ y → decided x y r ≡ r
+decided-same x y r h = rw (le-ltb x y (omega arith), le-ltb y x (omega arith))
+
+-- strings stand as two numbers do
+standing-as : (j k : Bits) (x y : ℕ) → (j ≺ k → x < y) → (Same false j k → x ≡ y) → (k ≺ j → y < x)
+    → standing j k ≡ numberStanding x y
+standing-as j k x y less equal more = by-case (says-standing j k)
+  where
+    by-case : Says j k (standing j k) → standing j k ≡ numberStanding x y
+    by-case (says-before n h) = n ∙ sym (decided-before x y same (less h))
+    by-case (says-same n h) = n ∙ sym (decided-same x y same (equal h))
+    by-case (says-after n h) = n ∙ sym (decided-after x y same (more h))
 
 -- canonical keys stand as the cross products of their values do
-module _ (j k : Bits) (c : Canonical j) (d : Canonical k) where
-  abbrev u : Ratio
-  u = valueOfKey words1983 j
+cross-standing : (j k : Bits) → Canonical j → Canonical k
+    → let u = valueOfKey words1983 j in let v = valueOfKey words1983 k in
+    standing j k ≡ numberStanding (u .num * v .den) (v .num * u .den)
+cross-standing j k c d =
+    standing-as j k _ _ (value-order words1983 j k c d .0)
+    (λ h. rw (canonical-same j k c d h))
+    (value-order words1983 k j d c .0)
 
-  abbrev v : Ratio
-  v = valueOfKey words1983 k
-
-  cross-standing : standing j k ≡ numberStanding (u .num * v .den) (v .num * u .den)
-  cross-standing = by-case (says-standing j k)
-    where
-      x : ℕ
-      x = u .num * v .den
-
-      y : ℕ
-      y = v .num * u .den
-
-      by-case : Says j k (standing j k) → standing j k ≡ numberStanding x y
-      by-case (says-before n h) = n ∙ sym (number-before x y ((value-order words1983 j k c d) .0 h))
-      by-case (says-same n h) =
-          let e : u ≡ v = ap (valueOfKey words1983) (canonical-same j k c d h) in n ∙ sym (number-same x y (rw e))
-      by-case (says-after n h) = n ∙ sym (number-after x y ((value-order words1983 k j d c) .0 h))
+-- and keys of ratios as the ratios do, over any family
+pub key-standing : (F : Family) (p q r s : ℕ) → 1 ≤ q → 1 ≤ s
+    → standing (keyOf F p q) (keyOf F r s) ≡ numberStanding (p * s) (r * q)
+key-standing F p q r s f g =
+    standing-as (keyOf F p q) (keyOf F r s) _ _ (key-order F p q r s f g .0)
+    (λ h. key-equal F p q r s f g .0 (canonical-same _ _ (key-canonical F p q f) (key-canonical F r s g) h))
+    (key-order F r s p q g f .0)
 
 pub text-compared : (j k : List ℕ) (p q r s : ℕ) → Clear (keyRefusals j (keyRefusals k []))
     → valueOfKey words1983 (bitsOfText j) ≡ p over q → valueOfKey words1983 (bitsOfText k) ≡ r over s

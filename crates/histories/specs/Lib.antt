@@ -1,0 +1,6 @@
+pub mod Histories
+pub mod AsRun
+pub mod Holding
+pub mod Steps
+pub mod Balance
+pub mod Alike

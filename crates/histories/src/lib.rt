@@ -1,0 +1,1 @@
+// A theory crate: its definitions and theorems stand in specs/.

@@ -1,0 +1,14 @@
+pub mod Rows
+pub mod Layouts
+pub mod Sound
+pub mod Stocks
+pub mod Moves
+pub mod Order
+pub mod Held
+pub mod Kept
+pub mod Parts
+pub mod Numbers
+pub mod Tables
+pub mod Moved
+pub mod Sizes
+pub mod Searching
