@@ -1,16 +1,20 @@
-//! Ratio keys that sort, by the proved archive liblcf.a. Each call takes any input, and the archive checks it: nothing
-//! is tested here. What a call gives, refuses and leaves is said in include/lcf.h.
+//! Ratio keys that sort, and a stock table in ratio order, by the proved archive liblcf.a. Each call takes any input,
+//! and the archive checks it: nothing is tested here. What a call gives, refuses and leaves is said in include/lcf.h.
 #![no_std]
 #![deny(missing_docs)]
 
 mod raw;
+mod stock;
 
 use core::cmp::Ordering;
+pub use stock::{Held, Row, Stock};
 
 /// Room that a text key asks for.
 pub const TEXT_BYTES: usize = 96;
 /// A column's size, and the room that it asks for.
 pub const COLUMN_BYTES: usize = 12;
+/// The most rows that a stock table has room for.
+pub const ROWS_MOST: usize = 2048;
 
 /// Why a call refused. The numbers are the library's.
 #[allow(missing_docs)]
@@ -26,6 +30,14 @@ pub enum Refusal {
     OutOfRange = 7,
     Outside = 8,
     WrongColumn = 9,
+    /// By the ratio lister alone.
+    MalformedLine = 10,
+    TableFull = 11,
+    NoSuchRatio = 12,
+    LargeSum = 13,
+    TooFew = 14,
+    NoQuantity = 15,
+    UnsoundTable = 16,
 }
 
 /// What writing reports: the key's characters, and the quotients written.
@@ -64,7 +76,14 @@ fn told<T>(refusal: u32, value: T) -> Result<T, Refusal> {
         6 => Refusal::LastZero,
         7 => Refusal::OutOfRange,
         8 => Refusal::Outside,
-        _ => Refusal::WrongColumn,
+        9 => Refusal::WrongColumn,
+        10 => Refusal::MalformedLine,
+        11 => Refusal::TableFull,
+        12 => Refusal::NoSuchRatio,
+        13 => Refusal::LargeSum,
+        14 => Refusal::TooFew,
+        15 => Refusal::NoQuantity,
+        _ => Refusal::UnsoundTable,
     })
 }
 

@@ -1,5 +1,5 @@
 //! The archive's functions and structs, as include/lcf.h declares them.
-use crate::Place;
+use crate::{Place, Row};
 
 #[repr(C)]
 pub struct Written {
@@ -46,7 +46,32 @@ pub struct Stepped {
     pub place: Place,
 }
 
-// Each pointer goes with the length after it.
+#[repr(C)]
+pub struct Stocked {
+    pub refusal: u32,
+    pub quantity: u32,
+    pub used: usize,
+    pub row: usize,
+}
+
+#[repr(C)]
+pub struct Found {
+    pub refusal: u32,
+    pub quantity: u32,
+    pub row: usize,
+}
+
+#[repr(C)]
+pub struct Listed {
+    pub refusal: u32,
+    pub numerator: u32,
+    pub denominator: u32,
+    pub quantity: u32,
+    pub row: usize,
+    pub found: bool,
+}
+
+// Each pointer goes with the length after it; a table's is in bytes.
 extern "C" {
     pub fn lcf_write_text(numerator: u32, denominator: u32, out: *mut u8, length: usize) -> Written;
     pub fn lcf_write_column(numerator: u32, denominator: u32, out: *mut u8, length: usize) -> Written;
@@ -59,4 +84,22 @@ extern "C" {
     pub fn lcf_cut(key: *const u8, key_length: usize, width: usize, out: *mut u8, length: usize) -> Text;
     pub fn lcf_start(key: *const u8, length: usize) -> Started;
     pub fn lcf_step(key: *const u8, length: usize, place: Place) -> Stepped;
+    pub fn lcf_stock_put(
+        table: *mut Row,
+        length: usize,
+        used: usize,
+        numerator: u32,
+        denominator: u32,
+        quantity: u32,
+    ) -> Stocked;
+    pub fn lcf_stock_take(
+        table: *mut Row,
+        length: usize,
+        used: usize,
+        numerator: u32,
+        denominator: u32,
+        quantity: u32,
+    ) -> Stocked;
+    pub fn lcf_stock_find(table: *const Row, length: usize, used: usize, numerator: u32, denominator: u32) -> Found;
+    pub fn lcf_stock_from(table: *const Row, length: usize, used: usize, numerator: u32, denominator: u32) -> Listed;
 }

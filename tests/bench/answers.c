@@ -47,3 +47,24 @@ bool same_answers(const struct answers *a, const struct answers *b, size_t count
     return !memcmp(a->column, b->column, sizeof a->column) && !memcmp(a->text, b->text, sizeof a->text) &&
            !memcmp(a->cut_text, b->cut_text, sizeof a->cut_text);
 }
+
+static bool same_stocked(struct lcf_stocked a, struct lcf_stocked b) {
+    return a.refusal == b.refusal && a.quantity == b.quantity && a.used == b.used && a.row == b.row;
+}
+
+static bool same_found(struct lcf_found a, struct lcf_found b) {
+    return a.refusal == b.refusal && a.quantity == b.quantity && a.row == b.row;
+}
+
+static bool same_listed(struct lcf_listed a, struct lcf_listed b) {
+    return a.refusal == b.refusal && a.numerator == b.numerator && a.denominator == b.denominator &&
+           a.quantity == b.quantity && a.row == b.row && a.found == b.found;
+}
+
+bool same_stock_answers(const struct stock_answers *a, const struct stock_answers *b) {
+    for (size_t i = 0; i < STOCK_CALLS; i++)
+        if (!same_stocked(a->stocked[i], b->stocked[i]) || !same_found(a->found[i], b->found[i]) ||
+            !same_listed(a->listed[i], b->listed[i]))
+            return false;
+    return !memcmp(a->table, b->table, sizeof a->table);
+}

@@ -143,7 +143,7 @@ static bool count_wheels(void) {
 }
 
 int main(void) {
-    if (count_random() && count_wheels() && count_sorts())
+    if (count_random() && count_wheels() && count_sorts() && count_stocks())
         return 0;
     fputs("the proved library and plain C differ\n", stdout);
     return 1;

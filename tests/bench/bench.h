@@ -20,6 +20,10 @@ struct side {
     struct lcf_text (*cut)(const uint8_t *, size_t, size_t, uint8_t *, size_t);
     struct lcf_started (*start)(const uint8_t *, size_t);
     struct lcf_stepped (*step)(const uint8_t *, size_t, struct lcf_place);
+    struct lcf_stocked (*stock_put)(void *, size_t, size_t, uint32_t, uint32_t, uint32_t);
+    struct lcf_stocked (*stock_take)(void *, size_t, size_t, uint32_t, uint32_t, uint32_t);
+    struct lcf_found (*stock_find)(const void *, size_t, size_t, uint32_t, uint32_t);
+    struct lcf_listed (*stock_from)(const void *, size_t, size_t, uint32_t, uint32_t);
 };
 
 enum { PROVED, PLAIN, EMPTY, SIDES };
@@ -39,12 +43,29 @@ struct answers {
 /* Whether two sides agree on count keys and all their steps. */
 bool same_answers(const struct answers *a, const struct answers *b, size_t count, size_t steps);
 
+/* Small tables have so few rows, and there are so many calls, that each row of the large one is in one of them. */
+enum { FEW_ROWS = 16, STOCK_CALLS = LCF_ROWS_MOST / FEW_ROWS };
+
+/* What one side gives of a stock table, and the tables that it leaves, one a call. They are aligned, since what the C
+   library's memmove takes goes by where memory stands. */
+struct stock_answers {
+    struct lcf_stocked stocked[STOCK_CALLS];
+    struct lcf_found found[STOCK_CALLS];
+    struct lcf_listed listed[STOCK_CALLS];
+    _Alignas(64) struct lcf_row table[STOCK_CALLS][LCF_ROWS_MOST];
+};
+
+bool same_stock_answers(const struct stock_answers *a, const struct stock_answers *b);
+
 /* Between the two the emulator's plugin counts what is executed; it ends the line that the first begins. */
 void count_from_here(const char *row, const char *set, const char *side, size_t calls, const char *bar);
 void count_to_here(void);
 
 /* Counts sorting; false where two orders differ. */
 bool count_sorts(void);
+
+/* Counts the calls of a stock table; false where the two sides differ. */
+bool count_stocks(void);
 
 /* The same numbers on every machine. */
 uint64_t random_number(void);

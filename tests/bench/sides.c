@@ -35,12 +35,28 @@ static struct lcf_stepped no_step(const uint8_t *key, size_t length, struct lcf_
     return (struct lcf_stepped){.place = place};
 }
 
+static struct lcf_stocked no_stock(void *table, size_t length, size_t used, uint32_t p, uint32_t q, uint32_t quantity) {
+    (void)table, (void)length, (void)used, (void)p, (void)q, (void)quantity;
+    return (struct lcf_stocked){0};
+}
+
+static struct lcf_found no_find(const void *table, size_t length, size_t used, uint32_t p, uint32_t q) {
+    (void)table, (void)length, (void)used, (void)p, (void)q;
+    return (struct lcf_found){0};
+}
+
+static struct lcf_listed no_from(const void *table, size_t length, size_t used, uint32_t p, uint32_t q) {
+    (void)table, (void)length, (void)used, (void)p, (void)q;
+    return (struct lcf_listed){0};
+}
+
 const struct side sides[SIDES] = {
     {"proved", lcf_write_column, lcf_write_text, lcf_read_column, lcf_read_text, lcf_compare, lcf_cut, lcf_start,
-     lcf_step},
+     lcf_step, lcf_stock_put, lcf_stock_take, lcf_stock_find, lcf_stock_from},
     {"plain", plain_write_column, plain_write_text, plain_read_column, plain_read_text, plain_compare, plain_cut,
-     plain_start, plain_step},
-    {"empty", no_write, no_write, no_read, no_read, no_compare, no_cut, no_start, no_step},
+     plain_start, plain_step, plain_stock_put, plain_stock_take, plain_stock_find, plain_stock_from},
+    {"empty", no_write, no_write, no_read, no_read, no_compare, no_cut, no_start, no_step, no_stock, no_stock, no_find,
+     no_from},
 };
 
 /* A system call that no kernel has. */

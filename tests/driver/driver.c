@@ -1,8 +1,8 @@
 /* Reads cases from standard input, a call with its answer in each line, calls the archive, and compares every field of
    the answer and every byte of the lent memory. The lines come from `reference cases`, which says how they look. */
 #define _DEFAULT_SOURCE
+#include "driver.h"
 #include "lcf.h"
-#include "lent.h"
 
 #include <signal.h>
 #include <stdio.h>
@@ -10,14 +10,16 @@
 #include <string.h>
 #include <unistd.h>
 
-enum { MOST_INPUTS = 3, SHOWN = 5 };
+enum { MOST_INPUTS = 5, SHOWN = 5, GOT_MOST = 2 * LENT_MOST + 256 };
 
 static char *line; /* as it was read; its fields are cut out of a copy */
 static unsigned long line_number;
-static struct lent first, second, out;
-static size_t written;  /* how many bytes at the front of out the call may have changed */
-static char got[2048];  /* the answer in the form of the line */
-static size_t got_used; /* characters of it */
+static struct lent second;
+static size_t written;     /* how many bytes at the front of out the call may have changed */
+static char got[GOT_MOST]; /* the answer in the form of the line */
+static size_t got_used;    /* characters of it */
+
+struct lent first, out;
 
 static void malformed(void) {
     fprintf(stderr, "driver: line %lu is malformed: %s\n", line_number, line);
@@ -30,7 +32,7 @@ static void faulted(int signal_number) {
     _exit(1);
 }
 
-static uint64_t number(const char *field, uint64_t most) {
+uint64_t number(const char *field, uint64_t most) {
     uint64_t value = 0;
     if (*field == 0) malformed();
     for (; *field != 0; field++) {
@@ -61,7 +63,7 @@ static void lend_input(struct lent *lent, const char *field, uint64_t salt) {
     lend(lent, length, content, 3 * line_number + salt);
 }
 
-static void lend_first(const char *field) {
+void lend_first(const char *field) {
     lend_input(&first, field, 0);
 }
 
@@ -69,17 +71,20 @@ static void lend_second(const char *field) {
     lend_input(&second, field, 1);
 }
 
+void lend_table(const char *field) {
+    lend_input(&out, field, 2);
+}
+
 static void lend_out(const char *field) {
     lend(&out, number(field, LENT_MOST), NULL, 3 * line_number + 2);
 }
 
-static void tell(uint64_t value) {
+void tell(uint64_t value) {
     const char *space = got_used == 0 ? "" : " ";
     got_used += (size_t)sprintf(got + got_used, "%s%llu", space, (unsigned long long)value);
 }
 
-/* A flag by its byte: one that is neither 0 nor 1 is an error. */
-static void tell_flag(const bool *flag) {
+void tell_flag(const bool *flag) {
     tell(*(const unsigned char *)flag);
 }
 
@@ -98,6 +103,14 @@ static void tell_out(uint32_t refusal, size_t count) {
         got[got_used++] = "0123456789abcdef"[out.bytes[i] & 15];
     }
     got[got_used] = 0;
+}
+
+void tell_table(void) {
+    tell_out(LCF_OK, out.length);
+}
+
+void tell_fault(const char *fault) {
+    got_used += (size_t)sprintf(got + got_used, ", and %s", fault);
 }
 
 static void write_text(char **input) {
@@ -211,6 +224,10 @@ static struct call {
     {"cut", 3, cut, 0},
     {"start", 1, start, 0},
     {"step", 3, step, 0},
+    {"stock_put", 5, stock_put, 0},
+    {"stock_take", 5, stock_take, 0},
+    {"stock_find", 4, stock_find, 0},
+    {"stock_from", 4, stock_from, 0},
 };
 
 enum { CALLS = sizeof calls / sizeof *calls };
@@ -252,7 +269,7 @@ static bool agrees(char *copy) {
     call->run(input);
     call->count++;
     bool kept = is_kept(&first, 0) && is_kept(&second, 0) && is_kept(&out, written);
-    if (!kept) strcpy(got + got_used, ", and lent memory is changed");
+    if (!kept) tell_fault("lent memory is changed");
     return strcmp(got, answer) == 0;
 }
 

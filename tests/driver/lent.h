@@ -7,7 +7,7 @@
 #include <stddef.h>
 #include <stdint.h>
 
-enum { LENT_GUARD = 64, LENT_MOST = 1024 };
+enum { LENT_GUARD = 64, LENT_MOST = 24588 }; /* a row more than the largest table has */
 
 struct lent {
     uint8_t *bytes; /* what is lent */

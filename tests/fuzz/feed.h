@@ -2,80 +2,33 @@
 #ifndef FEED_H
 #define FEED_H
 
-#include "lcf.h"
 #include "lent.h"
 
-#include <string.h>
+extern uint64_t number; /* decides on the places of lent memory; made of the bytes, so that a finding can be repeated */
+extern size_t bytes_left;
+extern struct lent first, second, out;
 
-static const uint8_t *bytes;
-static size_t bytes_left;
-static uint64_t number; /* decides on the places of lent memory; made of the bytes, so that a finding can be repeated */
-static struct lent first, second, out;
+/* Takes new bytes, and forgets what was lent. */
+void feed(const uint8_t *data, size_t size);
 
-static void feed(const uint8_t *data, size_t size) {
-    bytes = data;
-    bytes_left = size;
-    number = size;
-    for (size_t i = 0; i < size; i++) number = 31 * number + data[i];
-    take_back(&first);
-    take_back(&second);
-    take_back(&out);
-}
-
-static uint8_t take(void) {
-    if (bytes_left == 0) return 0;
-    bytes_left--;
-    return *bytes++;
-}
+/* The next byte, or 0 where there is none left. */
+uint8_t take(void);
 
 /* A 32-bit number of any count of digits. */
-static uint32_t take_term(void) {
-    uint32_t value = 0;
-    for (int i = 0; i < 4; i++) value = value << 8 | take();
-    return value >> take() % 32;
-}
+uint32_t take_term(void);
 
 /* Mostly a small number, at times one that a narrower type would take for small. */
-static size_t take_size(void) {
-    size_t size = take(), shift = take();
-    return shift < 224 ? size : size + ((size_t)1 << (shift % 64));
-}
+size_t take_size(void);
 
-static void take_key(struct lent *lent, uint64_t salt) {
-    uint8_t content[256], mode = take(), eight = 0;
-    size_t length = take();
-    if (mode % 8 != 0) length %= 97;
-    for (size_t i = 0; i < length; i++, eight >>= 1) {
-        if (i % 8 == 0) eight = take();
-        content[i] = '0' + (eight & 1);
-    }
-    if (length > 0 && mode / 8 % 8 != 0) content[length - 1] = '1';
-    if (length > 0 && mode / 64 == 0) content[take() % length] = take();
-    lend(lent, length, content, number + salt);
-}
+/* Lends a key, with a fault at times. */
+void take_key(struct lent *lent, uint64_t salt);
 
 /* The second key of a pair: any, or the first one with a character turned and its end cut off. */
-static void take_second(void) {
-    uint8_t content[256];
-    if (take() % 4 == 0 || first.length == 0) {
-        take_key(&second, 1);
-        return;
-    }
-    memcpy(content, first.bytes, first.length);
-    content[take() % first.length] ^= take() & 1;
-    lend(&second, first.length - take() % first.length, content, number + 1);
-}
+void take_second(void);
 
-static void take_column(void) {
-    uint8_t content[15], length = take();
-    length = length < 64 ? length % 15 : LCF_COLUMN_BYTES;
-    for (int i = 0; i < length; i++) content[i] = take();
-    lend(&first, length, content, number);
-}
+void take_column(void);
 
-static void take_out(size_t asked) {
-    uint8_t length = take();
-    lend(&out, length < 128 ? length : asked, NULL, number + 2);
-}
+/* A buffer of the length that is asked for, or any. */
+void take_out(size_t asked);
 
 #endif

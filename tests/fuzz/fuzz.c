@@ -1,15 +1,17 @@
-/* A libFuzzer target: forms one call out of the bytes and checks what must hold of any answer, without a reference.
-   The archive isn't instrumented; the fuzzer finds its way by the branches of these checks, which walk the keys. */
+/* A libFuzzer target: forms calls out of the bytes and checks what must hold of any answer, without a reference. The
+   archive isn't instrumented; the fuzzer finds its way by the branches of these checks, which walk the keys and the
+   rows. */
+#include "fuzz.h"
 #include "feed.h"
+#include "lcf.h"
 
 #include <stdio.h>
 #include <stdlib.h>
-
-#define MUST(condition) ((condition) ? (void)0 : violated(#condition, __func__))
+#include <string.h>
 
 static const uint64_t LIMIT = UINT32_MAX;
 
-static void violated(const char *condition, const char *where) {
+void violated(const char *condition, const char *where) {
     fprintf(stderr, "fuzz: %s: this must hold: %s\n", where, condition);
     abort();
 }
@@ -34,8 +36,7 @@ static uint32_t judge_room(size_t asked) {
     return out.length < asked ? LCF_SHORT_BUFFER : LCF_OK;
 }
 
-/* The first refusal that applies. */
-static uint32_t in_order(uint32_t one, uint32_t next) {
+uint32_t in_order(uint32_t one, uint32_t next) {
     return one != LCF_OK ? one : next;
 }
 
@@ -277,7 +278,8 @@ int LLVMFuzzerTestOneInput(const uint8_t *data, size_t size);
 
 int LLVMFuzzerTestOneInput(const uint8_t *data, size_t size) {
     static void (*const calls[])(void) = {write_text,     write_column, read_text, read_column, column_to_text,
-                                          text_to_column, compare,      cut,       start,       step};
+                                          text_to_column, compare,      cut,       start,       step,
+                                          stock};
     feed(data, size);
     calls[take() % (sizeof calls / sizeof *calls)]();
     return 0;

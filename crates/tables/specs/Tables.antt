@@ -2,7 +2,7 @@
 use mathlib.Core.Path.{_≡_, refl, sym, _∙_, ap}
 use mathlib.Core.Bool.{true, false≢true}
 use mathlib.Core.List.{List, [], _∷_, _++_, append-assoc}
-use Prim.Native.Nat.{ℕ, zero, suc, _+_, _*_, _-_, _≤_}
+use Prim.Native.Nat.{ℕ, zero, suc, _+_, _*_, _-_, _≤_, _<_}
 use native.Mathlib.Omega.{arith}
 use borrow.Author.Tests.{eqb-true, eq-eqb}
 use lib.Dec.{eqb}
@@ -50,8 +50,11 @@ unfolding fitting
 plain-fits zero m = refl
 plain-fits (suc n) m = plain-fits n (drop 12 m)
 
--- from row i on
-pub rows-drop : (w n i : ℕ) (m : List ℕ) → drop i (rowsIn w n m) ≡ rowsIn w (n - i) (drop (w * i) m)
+-- the rows from row i on
+abbrev pub rowsFrom : ℕ → List ℕ → ℕ → ℕ → List Row
+rowsFrom w m used i = rowsIn w (used - i) (drop (w * i) m)
+
+pub rows-drop : (w n i : ℕ) (m : List ℕ) → drop i (rowsIn w n m) ≡ rowsFrom w m n i
 unfolding rowsIn
 rows-drop w n zero m =
     let none : w * 0 ≡ 0 = omega arith in let all : n - 0 ≡ n = omega arith in rw (none, all)
@@ -60,6 +63,19 @@ rows-drop w (suc n) (suc i) m =
     let less : suc n - suc i ≡ n - i = omega arith in
     let place : w + w * i ≡ w * suc i = omega arith in
     rows-drop w n i (drop w m) ∙ rw (less, drop-drop, place)
+
+-- the first of them and the others; none behind the last
+pub rows-next : (w : ℕ) (m : List ℕ) (n i : ℕ) → i < n
+    → rowsFrom w m n i ≡ rowOf (drop (w * i) m) ∷ rowsFrom w m n (suc i)
+unfolding rowsIn
+rows-next w m n i h =
+    let less : n - i ≡ suc (n - suc i) = omega arith in
+    let place : w * i + w ≡ w * suc i = omega arith in
+    rw (less, drop-drop, place)
+
+pub rows-end : (w : ℕ) (m : List ℕ) (n i : ℕ) → n ≤ i → rowsFrom w m n i ≡ []
+unfolding rowsIn
+rows-end w m n i h = let none : n - i ≡ 0 = omega arith in rw none
 
 module _ (L : Layout) where
   abbrev w : ℕ

@@ -34,7 +34,7 @@ pub fn judged(key: &[u8]) -> Result<&str, Refusal> {
     }
 }
 
-fn refuse_if(applies: bool, number: Refusal) -> Result<(), Refusal> {
+pub fn refuse_if(applies: bool, number: Refusal) -> Result<(), Refusal> {
     if applies {
         Err(number)
     } else {

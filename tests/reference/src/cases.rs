@@ -1,6 +1,7 @@
 //! Cases for the driver: a call, its input, and after the equals sign its answer, in one line.
 
 use crate::calls::{self, Refusal, COLUMN, TEXT};
+use crate::histories::{self, History};
 use crate::inputs;
 use crate::random::Random;
 use crate::ratios;
@@ -19,12 +20,33 @@ const CALLS: [fn(&mut Random) -> String; 11] = [
     step,
 ];
 
-pub fn case(random: &mut Random) -> String {
-    random.pick(&CALLS)(random)
+/// Cases without end: single calls, and as often as four of them the next call of a stock table's running history.
+pub struct Cases {
+    random: Random,
+    history: History,
+}
+
+impl Cases {
+    pub fn new(seed: u64) -> Self {
+        let mut random = Random::new(seed);
+        let history = History::new(&mut random);
+        Cases { random, history }
+    }
+}
+
+impl Iterator for Cases {
+    type Item = String;
+
+    fn next(&mut self) -> Option<String> {
+        match CALLS.get(self.random.below(CALLS.len() + histories::CALLS)) {
+            Some(call) => Some(call(&mut self.random)),
+            None => Some(self.history.case(&mut self.random)),
+        }
+    }
 }
 
 /// Bytes in hex; none as a dash, so that no field is empty.
-fn hex(bytes: &[u8]) -> String {
+pub fn hex(bytes: &[u8]) -> String {
     if bytes.is_empty() {
         return "-".to_string();
     }
@@ -33,7 +55,7 @@ fn hex(bytes: &[u8]) -> String {
 }
 
 /// An answer's fields: refusal 0 and the values, or the number and what a refusal leaves.
-fn told<T>(answer: Result<T, Refusal>, refused: &str, show: impl Fn(T) -> String) -> String {
+pub fn told<T>(answer: Result<T, Refusal>, refused: &str, show: impl Fn(T) -> String) -> String {
     match answer {
         Ok(values) => format!("0 {}", show(values)),
         Err(number) => format!("{number} {refused}"),
@@ -119,44 +141,4 @@ fn step(random: &mut Random) -> String {
 }
 
 #[cfg(test)]
-mod tests {
-    use super::*;
-    use std::collections::HashSet;
-
-    /// What a case is about: the call's name and its refusal.
-    fn kind(case: &str) -> (String, String) {
-        let (input, answer) = case.split_once(" = ").unwrap();
-        let first = |fields: &str| fields.split(' ').next().unwrap().to_string();
-        (first(input), first(answer))
-    }
-
-    #[test]
-    fn a_seed_makes_the_same_cases_and_another_others() {
-        let made = |seed| case(&mut Random::new(seed)) + &case(&mut Random::new(seed + 1));
-        assert_eq!(made(1), made(1));
-        assert_ne!(made(1), made(2));
-    }
-
-    #[test]
-    fn every_answer_of_every_call_is_met() {
-        let mut random = Random::new(1);
-        let met: HashSet<_> = (0..50_000).map(|_| kind(&case(&mut random))).collect();
-        let answers = [
-            ("write_text", "0 1 2"),
-            ("write_column", "0 1 2"),
-            ("read_text", "0 3 4 5 6 7"),
-            ("read_column", "0 7 9"),
-            ("column_to_text", "0 2 9"),
-            ("text_to_column", "0 2 3 4 5 6"),
-            ("compare", "0 3 4 5 6"),
-            ("earlier", "0 1 2"),
-            ("cut", "0 2 3 4 5 6 8"),
-            ("start", "0 3 4 5 6"),
-            ("step", "0 3 4 5 6 7 8"),
-        ];
-        let list =
-            |name: &'static str, all: &'static str| all.split(' ').map(move |n| (name.to_string(), n.to_string()));
-        let expected: HashSet<_> = answers.iter().flat_map(|(name, all)| list(name, all)).collect();
-        assert_eq!(met, expected);
-    }
-}
+mod tests;

@@ -6,7 +6,7 @@ use crate::random::Random;
 use crate::ratios;
 
 /// Numbers that a narrower type would take for small ones, and those beside the limits of a byte.
-const HUGE: [usize; 12] = [
+pub const HUGE: [usize; 12] = [
     usize::MAX,
     usize::MAX - 1,
     1 << 63,

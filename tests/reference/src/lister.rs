@@ -2,6 +2,7 @@
 
 use crate::calls::LIMIT;
 use crate::keys;
+use crate::ratios;
 
 /// The lines of an input. The last may lack its newline; after a last newline comes no line.
 fn lines(input: &[u8]) -> Vec<&[u8]> {
@@ -25,14 +26,6 @@ fn ratio(line: &[u8]) -> Option<(u128, u128)> {
     Some((numeral(&line[..slash])?, numeral(&line[slash + 1..])?))
 }
 
-fn greatest_divisor(a: u128, b: u128) -> u128 {
-    if b == 0 {
-        a
-    } else {
-        greatest_divisor(b, a % b)
-    }
-}
-
 fn answer(line: &[u8]) -> String {
     let Some((p, q)) = ratio(line) else {
         return "refused 10\n".to_string();
@@ -43,8 +36,8 @@ fn answer(line: &[u8]) -> String {
     if q == 0 {
         return "refused 1\n".to_string();
     }
-    let divisor = greatest_divisor(p, q);
-    format!("{}/{} {} {}\n", p / divisor, q / divisor, keys::key(p, q), keys::written(p, q).len())
+    let (lowest_p, lowest_q) = ratios::lowest_terms(p, q);
+    format!("{lowest_p}/{lowest_q} {} {}\n", keys::key(p, q), keys::written(p, q).len())
 }
 
 pub fn list(input: &[u8]) -> Vec<u8> {

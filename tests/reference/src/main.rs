@@ -2,13 +2,17 @@
 
 mod calls;
 mod cases;
+mod histories;
 mod inputs;
 mod keys;
 mod lines;
 mod lister;
 mod random;
 mod ratios;
+mod stock;
+mod tables;
 
+use cases::Cases;
 use random::Random;
 use std::io::{self, BufWriter, Read, Write};
 use std::process::ExitCode;
@@ -18,9 +22,9 @@ usage: reference cases SEED COUNT   writes COUNT calls and their answers, one a 
        reference lines SEED COUNT   writes COUNT lines for the ratio lister, good and bad
        reference list               writes what the lister must write for standard input";
 
-fn cases(random: &mut Random, count: u64, out: &mut impl Write) -> io::Result<()> {
-    for _ in 0..count {
-        writeln!(out, "{}", cases::case(random))?;
+fn cases(seed: u64, count: usize, out: &mut impl Write) -> io::Result<()> {
+    for case in Cases::new(seed).take(count) {
+        writeln!(out, "{case}")?;
     }
     Ok(())
 }
@@ -42,7 +46,7 @@ fn list(out: &mut impl Write) -> io::Result<()> {
 
 fn run(arguments: &[&str], out: &mut impl Write) -> Option<io::Result<()>> {
     match arguments {
-        ["cases", seed, count] => Some(cases(&mut Random::new(seed.parse().ok()?), count.parse().ok()?, out)),
+        ["cases", seed, count] => Some(cases(seed.parse().ok()?, count.parse().ok()?, out)),
         ["lines", seed, count] => Some(lines(&mut Random::new(seed.parse().ok()?), count.parse().ok()?, out)),
         ["list"] => Some(list(out)),
         _ => None,

@@ -1,4 +1,4 @@
-//! Ratios of every size, and at the limits.
+//! Ratios: their lowest terms, and ones of every size and at the limits.
 
 use crate::random::Random;
 
@@ -30,17 +30,36 @@ const NOTABLE: [(u32, u32); 24] = [
     (3792186105, 4218363952),
 ];
 
+fn greatest_divisor(a: u128, b: u128) -> u128 {
+    if b == 0 {
+        a
+    } else {
+        greatest_divisor(b, a % b)
+    }
+}
+
+/// p/q, q >= 1, in lowest terms.
+pub fn lowest_terms(p: u128, q: u128) -> (u128, u128) {
+    let divisor = greatest_divisor(p, q);
+    (p / divisor, q / divisor)
+}
+
 pub fn wheel(random: &mut Random) -> u32 {
     random.between(20, 127) as u32
+}
+
+/// A ratio whose terms are at most 2 away.
+pub fn beside(random: &mut Random, (p, q): (u32, u32)) -> (u32, u32) {
+    let beside = |n: u32, by: usize| n.wrapping_add(by as u32).wrapping_sub(2);
+    (beside(p, random.below(5)), beside(q, random.below(5)))
 }
 
 pub fn ratio(random: &mut Random) -> (u32, u32) {
     match random.below(8) {
         0 => random.pick(&NOTABLE),
         1 => {
-            let (p, q) = random.pick(&NOTABLE);
-            let beside = |n: u32, by: usize| n.wrapping_add(by as u32).wrapping_sub(2);
-            (beside(p, random.below(5)), beside(q, random.below(5)))
+            let notable = random.pick(&NOTABLE);
+            beside(random, notable)
         }
         2 => (wheel(random), wheel(random)),
         3 => {
