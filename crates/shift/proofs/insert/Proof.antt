@@ -3,9 +3,9 @@ use native.Mathlib.Omega.{arith}
 use borrow.Author.Needs.{needs}
 use borrow.Author.Tests.{lt-ltb, le-ltb}
 use Rattle.tables.specs.Moves.{insertedAt}
-use Rattle.rows.specs.Shifting.{inserted}
-use Rattle.rows.proofs.insert.Statement.{statement}
-use Rattle.rows.proofs.insert.Tie as tie
+use Rattle.shift.specs.Shifting.{inserted}
+use Rattle.shift.proofs.insert.Statement.{statement}
+use Rattle.shift.proofs.insert.Tie as tie
 
 returns-before : tie.Need-returns
 unfolding insertedAt
@@ -19,7 +19,7 @@ returns-inserted : tie.Need-returns-3
 returns-inserted c =
     let put = c .before .before in
     let raised = put .before .before .before .before in
-    inserted _ _ _ (omega arith) (omega arith) _ (raised .raise .ensures) (put .put-from .ensures)
+    inserted _ _ _ (omega arith) (omega arith) _ (raised .raise .ensures) (put .put .ensures)
 
 pub insert-spec : {M : Type 1} → statement M
 insert-spec =
@@ -30,7 +30,6 @@ insert-spec =
     (λ c. search needs)
     (λ c. search needs)
     (λ c κs. search needs)
-    (λ c. search needs)
     (λ c κs. search needs)
     (λ c. search needs)
     returns-inserted)

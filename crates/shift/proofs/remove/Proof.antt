@@ -3,9 +3,9 @@ use native.Mathlib.Omega.{arith}
 use borrow.Author.Needs.{needs}
 use borrow.Author.Tests.{lt-ltb, le-ltb}
 use Rattle.tables.specs.Moves.{removedAt}
-use Rattle.rows.specs.Shifting.{removed}
-use Rattle.rows.proofs.remove.Statement.{statement}
-use Rattle.rows.proofs.remove.Tie as tie
+use Rattle.shift.specs.Shifting.{removed}
+use Rattle.shift.proofs.remove.Statement.{statement}
+use Rattle.shift.proofs.remove.Tie as tie
 
 returns-unused : tie.Need-returns
 unfolding removedAt
@@ -19,7 +19,7 @@ returns-removed : tie.Need-returns-3
 returns-removed c =
     let put = c .before .before in
     let lowered = put .before .before .before .before in
-    removed _ _ _ (omega arith) (omega arith) (lowered .lower .ensures) (put .put-from .ensures)
+    removed _ _ _ (omega arith) (omega arith) (lowered .lower .ensures) (put .put .ensures)
 
 pub remove-spec : {M : Type 1} → statement M
 remove-spec =

@@ -2,8 +2,8 @@
 use mathlib.Core.Path.{_≡_, refl}
 use native.Mathlib.Omega.{arith}
 use Rattle.bits.specs.Moving.{Raised, raised-start, raised-more}
-use Rattle.rows.proofs.raise.Statement.{statement}
-use Rattle.rows.proofs.raise.Tie as tie
+use Rattle.shift.proofs.raise.Statement.{statement}
+use Rattle.shift.proofs.raise.Tie as tie
 
 abbrev Inv-loop : tie.InvT-loop
 Inv-loop m₀ at last i₀ m i = Raised 12 at last m₀ m i

@@ -3,8 +3,8 @@ use mathlib.Core.Path.{_≡_, refl}
 use Prim.Native.Nat.{_-_}
 use native.Mathlib.Omega.{arith}
 use Rattle.bits.specs.Moving.{Lowered, lowered-start, lowered-more}
-use Rattle.rows.proofs.lower.Statement.{statement}
-use Rattle.rows.proofs.lower.Tie as tie
+use Rattle.shift.proofs.lower.Statement.{statement}
+use Rattle.shift.proofs.lower.Tie as tie
 
 abbrev Inv-loop : tie.InvT-loop
 Inv-loop m₀ at last i₀ m i = Lowered 12 at last m₀ m i
