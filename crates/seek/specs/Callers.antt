@@ -15,13 +15,14 @@ use Rattle.tables.specs.Layouts.{stockRows}
 use Rattle.tables.specs.Rows.{rowSize, roomOf, rowsIn}
 use Rattle.tables.specs.Sound.{sound, fitting}
 use Rattle.tables.specs.Stocks.{placeOf}
-use Rattle.tables.specs.Tables.{length-rows}
+use Rattle.tables.specs.Moved.{count}
 use Rattle.tables.specs.Order.{sound-facts, Above}
 use Rattle.tables.specs.Parts.{Here as Found, Absent as Missing, Parted, here, absent, parted}
 use Rattle.outcomes.specs.Outcomes.{Outcome, gives, refuses, called}
 use Rattle.outcomes.specs.Laws.{Clear, clear-called}
 use Rattle.outcomes.specs.Stocking.{wrongTable, Call, find, denominatorOf}
 use Rattle.outcomes.specs.Stocking.{stockRefusals, stockValues, stockMemory, stockCall}
+use Rattle.judge.specs.Callers.{Fine}
 use Rattle.seek.specs.declared.Fault.{Fault}
 use Rattle.seek.specs.declared.Fault.the-variants.{WrongTable, UnsoundTable, ZeroDenominator}
 use Rattle.seek.specs.declared.Sought.{Sought}
@@ -52,34 +53,33 @@ module _ (used p q : ℕ) (m : List ℕ) where
     abbrev rest : Outcome
     rest = called (stockRefusals (roomOf stockRows m) rows c) values m (stockMemory stockRows rows c m)
 
-    -- the rows in parts, in a table with room for them
+    -- the rows in parts, in a sound table
     abbrev Tells : Outcome → Sought → Type 0
-    Tells o (Here i r) = (used ≤ roomOf stockRows m) × (Found p q rows i r × (rest ≡ o))
+    Tells o (Here i r) = Fine used m × (Found p q rows i r × (rest ≡ o))
     Tells o (Absent i x y) =
-        (used ≤ roomOf stockRows m) × (Missing p q rows i × (((x over y) ≡ lowestTerms p q) × (rest ≡ o)))
+        Fine used m × (Missing p q rows i × (((x over y) ≡ lowestTerms p q) × (rest ≡ o)))
     Tells o (Faulty f) = refuses (numberOfFault f) (length values) m ≡ o
 
-    told-place : used ≤ roomOf stockRows m → Parted p q rows
+    told-place : Fine used m → Parted p q rows
         → let i = placeOf p q rows in Tells rest (soughtAt p q i (drop i rows))
-    told-place room (here {i} {r} h) =
+    told-place fine (here {i} {r} h) =
         let there : drop i rows ≡ r ∷ h .behind =
         ap (drop i) (h .parts) ∙ drop-at (h .before) (r ∷ h .behind) i (h .index) in
-        rw (h .place, there, eq-eqb (r .numerator * q) (p * r .denominator) (h .ratio)) (room, (h, refl))
-    told-place room (absent {i} h) =
+        rw (h .place, there, eq-eqb (r .numerator * q) (p * r .denominator) (h .ratio)) (fine, (h, refl))
+    told-place fine (absent {i} h) =
         let there : drop i rows ≡ h .behind = ap (drop i) (h .parts) ∙ drop-at (h .before) (h .behind) i (h .index) in
         rw (h .place, there) (by-rows (h .behind) (h .above))
       where
         by-rows : (l : List Row) → Above p q l → Tells rest (soughtAt p q i l)
-        by-rows [] a = (room, (h, (refl, refl)))
+        by-rows [] a = (fine, (h, (refl, refl)))
         by-rows (x ∷ l) (less, a) =
-            rw (ne-eqb (x .numerator * q) (p * x .denominator) (λ e. omega arith)) (room, (h, (refl, refl)))
+            rw (ne-eqb (x .numerator * q) (p * x .denominator) (λ e. omega arith)) (fine, (h, (refl, refl)))
 
     told : (s : Sought) → s ≡ sought used p q m → Tells whole s
     unfolding sought stockCall
     told s e =
         rw (e, same) (by-tests (wrongTable stockRows m .1) (ltb (roomOf stockRows m) used) (sound rows)
-        (fitting stockRows used m)
-        (eqb q 0) refl refl refl)
+        (fitting stockRows used m) (eqb q 0) refl refl refl refl)
       where
         i : ℕ
         i = placeOf p q rows
@@ -87,28 +87,29 @@ module _ (used p q : ℕ) (m : List ℕ) where
         refused : ℕ → Outcome
         refused n = refuses n (length values) m
 
-        by-tests : (w o t f z : Bool) → ltb (roomOf stockRows m) used ≡ o → sound rows ≡ t → eqb q 0 ≡ z
+        by-tests : (w o t f z : Bool) → ltb (roomOf stockRows m) used ≡ o → sound rows ≡ t
+            → fitting stockRows used m ≡ f → eqb q 0 ≡ z
             → Tells (cond w (refused 2) (cond (o || not (t && f)) (refused 16) (cond z (refused 1) rest)))
             (cond w (Faulty WrongTable) (cond (o || not (t && f)) (Faulty UnsoundTable)
             (cond z (Faulty ZeroDenominator) (soughtAt p q i (drop i rows)))))
-        by-tests true o t f z a b c = refl
-        by-tests false true t f z a b c = refl
-        by-tests false false false f z a b c = refl
-        by-tests false false true false z a b c = refl
-        by-tests false false true true true a b c = refl
-        by-tests false false true true false a b c =
-            told-place (ltb-false (roomOf stockRows m) used a)
+        by-tests true o t f z a b d c = refl
+        by-tests false true t f z a b d c = refl
+        by-tests false false false f z a b d c = refl
+        by-tests false false true false z a b d c = refl
+        by-tests false false true true true a b d c = refl
+        by-tests false false true true false a b d c =
+            told-place (record { within = ltb-false (roomOf stockRows m) used a; rows = b; fits = d })
             (parted p q rows (omega (arith, eqb-false q 0 c)) (sound-facts rows b))
 
     pub told-faulty : (f : Fault) → Faulty f ≡ sought used p q m → refuses (numberOfFault f) (length values) m ≡ whole
     told-faulty f e = told (Faulty f) e
 
     pub told-here : (i : ℕ) (r : Row) → Here i r ≡ sought used p q m
-        → (used ≤ roomOf stockRows m) × (Found p q rows i r × (rest ≡ whole))
+        → Fine used m × (Found p q rows i r × (rest ≡ whole))
     told-here i r e = told (Here i r) e
 
     pub told-absent : (i x y : ℕ) → Absent i x y ≡ sought used p q m
-        → (used ≤ roomOf stockRows m) × (Missing p q rows i × (((x over y) ≡ lowestTerms p q) × (rest ≡ whole)))
+        → Fine used m × (Missing p q rows i × (((x over y) ≡ lowestTerms p q) × (rest ≡ whole)))
     told-absent i x y e = told (Absent i x y) e
 
     -- nothing is left to refuse
@@ -119,20 +120,15 @@ module _ (used p q : ℕ) (m : List ℕ) where
         ∙ sym (clear-called (stockRefusals (roomOf stockRows m) rows c) values m (stockMemory stockRows rows c m) clear)
         ∙ e
 
-  -- the place is within the used rows, and these within memory
-  rows-within : used ≤ roomOf stockRows m → (a c : List Row) → rows ≡ a ++ c
-      → (used ≡ length a + length c) × (12 * used ≤ length m)
-  rows-within room a c e =
-      (sym (length-rows 12 used m) ∙ ap length e ∙ length-append a c, omega arith)
-
-  pub here-within : (i : ℕ) (r : Row) → Here i r ≡ sought used p q m → (i < used) × (12 * used ≤ length m)
+  -- the place is within the used rows, and these within the room
+  pub here-within : (i : ℕ) (r : Row) → Here i r ≡ sought used p q m → (i < used) × (used ≤ roomOf stockRows m)
   here-within i r e =
-      let (room, (h, rest)) = told-here (find p q) refl i r e in
-      let (all, fit) = rows-within room (h .before) (r ∷ h .behind) (h .parts) in
-      (omega (arith, h .index), fit)
+      let (fine, (h, rest)) = told-here (find p q) refl i r e in
+      let all = count stockRows used m (h .before) (r ∷ h .behind) (h .parts) in
+      (omega (arith, h .index), fine .within)
 
-  pub absent-within : (i x y : ℕ) → Absent i x y ≡ sought used p q m → (i ≤ used) × (12 * used ≤ length m)
+  pub absent-within : (i x y : ℕ) → Absent i x y ≡ sought used p q m → (i ≤ used) × (used ≤ roomOf stockRows m)
   absent-within i x y e =
-      let (room, (h, rest)) = told-absent (find p q) refl i x y e in
-      let (all, fit) = rows-within room (h .before) (h .behind) (h .parts) in
-      (omega (arith, h .index), fit)
+      let (fine, (h, rest)) = told-absent (find p q) refl i x y e in
+      let all = count stockRows used m (h .before) (h .behind) (h .parts) in
+      (omega (arith, h .index), fine .within)

@@ -28,15 +28,16 @@ module _ (L : Layout) where
   unfolding rowAt
   row-at i m h = rw (lt-ltb i (roomOf L m) h)
 
+  -- the used rows in two parts
+  pub count : (used : ℕ) (m : List ℕ) (a c : List Row) → rowsIn w used m ≡ a ++ c → used ≡ length a + length c
+  count used m a c parts = sym (length-rows w used m) ∙ ap length parts ∙ length-append a c
+
   module _ (used : ℕ) (m : List ℕ) (room : used ≤ roomOf L m) (small : Bytes m) (fit : fitting L used m ≡ true) where
     abbrev rows : List Row
     rows = rowsIn w used m
 
     abbrev rest : List ℕ
     rest = drop (w * used) m
-
-    pub count : (a c : List Row) → rows ≡ a ++ c → used ≡ length a + length c
-    count a c parts = sym (length-rows w used m) ∙ ap length parts ∙ length-append a c
 
     -- no row goes
     table-same : (after : List Row) → used ≤ length after → tableAfter L rows after m ≡ inFront (tableBytes L after) m
@@ -71,7 +72,7 @@ module _ (L : Layout) where
           → insertedAt L i used x m ≡ tableAfter L rows (a ++ (x ∷ c)) m
       unfolding insertedAt tableBytes
       memory-inserted i e free x =
-          let all = count a c parts in
+          let all = count used m a c parts in
           let moved : used - length a ≡ length c = omega arith in
           let text : take (w * length c) (drop at m) ≡ tableBytes L c =
           rw back (take-at (tableBytes L c) rest (w * length c) (length-table L c)) in
@@ -92,7 +93,7 @@ module _ (L : Layout) where
       pub memory-put : (i : ℕ) → length a ≡ i → (x : Row) → putAt L i x m ≡ tableAfter L rows (a ++ (x ∷ b)) m
       unfolding putAt tableBytes
       memory-put i e x =
-          let all = count a (r ∷ b) parts in
+          let all = count used m a (r ∷ b) parts in
           let size : length (tableBytes L a ++ rowBytes L x) ≡ w * (length a + 1) =
           rw (length-append, length-row, length-table) (omega arith) in
           let whole : tableBytes L a ++ rowBytes L x ++ tableBytes L b ≡ tableBytes L (a ++ (x ∷ b)) =
@@ -106,7 +107,7 @@ module _ (L : Layout) where
       pub memory-removed : (i : ℕ) → length a ≡ i → removedAt L i used m ≡ tableAfter L rows (a ++ b) m
       unfolding removedAt
       memory-removed i e =
-          let all = count a (r ∷ b) parts in
+          let all = count used m a (r ∷ b) parts in
           let moved : used - (length a + 1) ≡ length b = omega arith in
           let text : take (w * length b) (drop (w * (length a + 1)) m) ≡ tableBytes L b =
           rw behind (take-at (tableBytes L b) rest (w * length b) (length-table L b)) in
