@@ -1,17 +1,18 @@
-// Putting into a stock table and taking out of it. A refused call gives no count of used rows: its caller's own stands.
+// Putting into a stock table.
 use seek::Fault;
 use seek::Sought;
 use tables::Row;
 ghost use mathlib.Core.Path.{_≡_};
 ghost use Rattle.tables.specs.Layouts.{stockRows};
 ghost use Rattle.outcomes.specs.Outcomes.{leaves};
-ghost use Rattle.outcomes.specs.Stocking.{stockCall, put-in, take-out};
-ghost use Rattle.stock.specs.Answers.{stockedAs, takenAs};
+ghost use Rattle.outcomes.specs.Stocking.{stockCall, put-in};
+ghost use Rattle.stock.specs.Answers.{stockedAs};
 
 // The bytes of a row.
 const ROW: usize = 12;
 
-// How many rows are used now, the index of the ratio's row, and its quantity.
+// How many rows are used now, the index of the ratio's row, and its quantity. A refused call gives no count: the
+// caller's own stands.
 pub enum Stocked {
     Row {
         used: usize,
@@ -80,71 +81,6 @@ pub fn put_in(table: &mut [u8], used: usize, p: u32, q: u32, n: u32) -> Stocked
                 used: used + 1,
                 index,
                 quantity: n,
-            }
-        }
-    }
-}
-
-// The same of a ratio that something was taken of; where its row went, the index is where it stood.
-pub enum Taken {
-    Row {
-        used: usize,
-        index: usize,
-        quantity: u32,
-    },
-    NoQuantity,
-    NoSuchRatio,
-    TooFew,
-    Faulty(Fault),
-}
-
-// Takes n of p/q out. A row that has none left goes.
-pub fn take_out(table: &mut [u8], used: usize, p: u32, q: u32, n: u32) -> Taken
-    ensures { λ r. ⌜ leaves (takenAs r) (now (table .exit))
-        ≡ stockCall stockRows (take-out p q n) used (now (table .entry)) ⌝ }
-{
-    match seek::seek(table, used, p, q) {
-        Sought::Faulty(fault) => Taken::Faulty(fault),
-        Sought::Absent {
-            index: _,
-            numerator: _,
-            denominator: _,
-        } => {
-            if n == 0 {
-                return Taken::NoQuantity;
-            }
-            Taken::NoSuchRatio
-        }
-        Sought::Here { index, row } => {
-            if n == 0 {
-                return Taken::NoQuantity;
-            }
-            let held = row.quantity;
-            if held < n {
-                return Taken::TooFew;
-            }
-            let quantity = held - n;
-            if quantity == 0 {
-                shift::remove(table, index, used);
-                return Taken::Row {
-                    used: used - 1,
-                    index,
-                    quantity,
-                };
-            }
-            rows::put(
-                table,
-                index,
-                Row {
-                    numerator: row.numerator,
-                    denominator: row.denominator,
-                    quantity,
-                },
-            );
-            Taken::Row {
-                used,
-                index,
-                quantity,
             }
         }
     }

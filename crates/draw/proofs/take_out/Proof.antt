@@ -3,9 +3,9 @@ use mathlib.Core.Path.{sym, _∙_}
 use native.Mathlib.Omega.{arith}
 use borrow.Author.Needs.{needs}
 use Rattle.seek.specs.Callers.{here-within}
-use Rattle.stock.specs.Taking.{take-faulty, none-taken, none-there, take-none, take-few, take-some, take-all}
-use Rattle.stock.proofs.take_out.Statement.{statement}
-use Rattle.stock.proofs.take_out.Tie as tie
+use Rattle.draw.specs.Taking.{take-faulty, none-taken, none-there, take-none, take-few, take-some, take-all}
+use Rattle.draw.proofs.take_out.Statement.{statement}
+use Rattle.draw.proofs.take_out.Tie as tie
 
 returns-none-taken : tie.Need-returns
 returns-none-taken c =
