@@ -105,7 +105,11 @@ length-digits (suc n) v = ap suc (length-digits n v)
 pub first-digits : (z : Bool) (n v : ℕ) → firstBits z n (digitsIn n v) ≡ digitsIn n v
 first-digits z n v = rw length-digits at (first-all z (digitsIn n v))
 
--- a digit is the bit that it is tested to be
+-- a bit's digit tells the bit, and a digit is the bit that it is tested to be
+pub bit-digit : (b : Bool) → eqb (digitOf b) 1 ≡ b
+bit-digit true = refl
+bit-digit false = refl
+
 digit-bit : (v : ℕ) → v < 2 → digitOf (eqb v 1) ≡ v
 digit-bit zero h = refl
 digit-bit (suc zero) h = refl

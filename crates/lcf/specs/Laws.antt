@@ -1,12 +1,11 @@
--- A struct that says what an answer does has the answer's outcome; and a struct's number and values tell the struct.
-use mathlib.Core.Path.{_≡_, refl, _∙_, ap}
-use mathlib.Core.Bool.{Bool, true, false}
+-- A struct's number and values tell the struct.
+use mathlib.Core.Path.{_≡_, refl}
 use mathlib.Core.List.{List}
 use Prim.Native.Nat.{ℕ}
 use lib.Dec.{eqb}
 use lib.ListN.{getD}
-use Rattle.bits.specs.Binary.{digitOf}
-use Rattle.outcomes.specs.Outcomes.{Outcome, Answer, leaves}
+use Rattle.bits.specs.Pieces.{bit-digit}
+use Rattle.outcomes.specs.Outcomes.{Outcome, Answer}
 use Rattle.lcf.specs.declared.Written.{Written}
 use Rattle.lcf.specs.declared.Ratio.{Ratio}
 use Rattle.lcf.specs.declared.Text.{Text}
@@ -16,9 +15,6 @@ use Rattle.lcf.specs.declared.Place.{Place}
 use Rattle.lcf.specs.declared.Started.{Started}
 use Rattle.lcf.specs.declared.Stepped.{Stepped}
 use Rattle.lcf.specs.Structs.{ofWritten, ofRatio, ofText, ofColumn, ofStanding, ofPlace, ofStarted, ofStepped}
-
-pub same-outcome : (a b : Answer) (m : List ℕ) (o : Outcome) → a ≡ b → leaves b m ≡ o → leaves a m ≡ o
-same-outcome a b m o e f = ap (λ (x : Answer). leaves x m) e ∙ f
 
 abbrev pub writtenIn : Answer → Written
 writtenIn a = record { refusal = a .refusal; quotients = getD (a .values) 1 0; characters = getD (a .values) 0 0 }
@@ -50,15 +46,11 @@ standingIn a = record { refusal = a .refusal; standing = getD (a .values) 0 0 }
 pub standing-told : (r : Standing) → standingIn (ofStanding r) ≡ r
 standing-told r = refl
 
-bit-told : (b : Bool) → eqb (digitOf b) 1 ≡ b
-bit-told true = refl
-bit-told false = refl
-
 abbrev placeIn : List ℕ → Place
 placeIn l = record { used = getD l 0 0; turned = eqb (getD l 1 0) 1 }
 
 place-told : (p : Place) → placeIn (ofPlace p) ≡ p
-place-told p = λ i. record { used = p .used; turned = bit-told (p .turned) i }
+place-told p = λ i. record { used = p .used; turned = bit-digit (p .turned) i }
 
 abbrev pub startedIn : Answer → Started
 startedIn a = record { refusal = a .refusal; place = placeIn (a .values) }
@@ -80,6 +72,6 @@ stepped-told r =
     λ i. record {
       refusal = r .refusal;
       quotient = r .quotient;
-      found = bit-told (r .found) i;
+      found = bit-digit (r .found) i;
       place = place-told (r .place) i;
     }

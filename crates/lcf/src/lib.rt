@@ -1,4 +1,4 @@
-// The library as C sees it: each call of the base under a plain name. It hands its arguments on and gives the answer as
+// The library as C sees it: each call under a plain name. It hands its arguments on and gives the answer as
 // a struct that begins with the refusal's number; the outcome is that of the call behind it. Nothing is decided here.
 ghost use mathlib.Core.List.{[]};
 ghost use mathlib.Core.Path.{_≡_};
@@ -15,6 +15,7 @@ ghost use Rattle.lcf.specs.Structs.{earlierIn};
 mod answers;
 mod keys;
 mod places;
+mod stocking;
 
 #[repr(C)]
 pub struct Written {

@@ -89,3 +89,7 @@ determined meaning answerOf told o r s m n e f =
           ∙ ap (λ (x : Outcome). answerOf (record { refusal = x .refusal; values = x .values })) same ∙ told s,
       ap (λ (x : Outcome). x .memory) same,
     )
+
+-- an answer that says what another does has its outcome
+pub same-outcome : (a b : Answer) (m : List ℕ) (o : Outcome) → a ≡ b → leaves b m ≡ o → leaves a m ≡ o
+same-outcome a b m o e f = ap (λ (x : Answer). leaves x m) e ∙ f
