@@ -11,7 +11,7 @@ use Rattle.fractions.specs.Fractions.{dividedFrom, gcd, lowestTerms, formOf, us
 use Rattle.tables.specs.Rows.{lowNumber, rowOf, rowsIn, rowBytes, tableBytes}
 use Rattle.tables.specs.Layouts.{plain, withColumn}
 use Rattle.tables.specs.Sound.{sound, soundBehind, fitting}
-use Rattle.tables.specs.Stocks.{placeOf, heldOf, stocked, drawn}
+use Rattle.tables.specs.Stocks.{passed, heldOf, stocked, drawn}
 use Rattle.outcomes.specs.Outcomes.{gives, refuses}
 use Rattle.outcomes.specs.Stocking.{put-in, take-out, find, list-from, stockCall}
 use Rattle.histories.specs.Histories.{ran}
@@ -35,7 +35,7 @@ history : ran plain
     ∷ gives (0 ∷ 0 ∷ 0 ∷ 0 ∷ 0 ∷ []) (row 1 2 4 ++ replicate 12 0)
     ∷ refuses 12 2 (row 1 2 4 ++ replicate 12 0)
     ∷ []
-unfolding fitting four row ran stockCall rowsIn rowOf lowNumber lowBytes rowBytes tableBytes sound soundBehind placeOf
+unfolding fitting four row ran stockCall rowsIn rowOf lowNumber lowBytes rowBytes tableBytes sound soundBehind passed
     heldOf stocked drawn
     lowestTerms gcd dividedFrom
 history = refl
@@ -47,7 +47,7 @@ columns : ran (withColumn words1983) (put-in 1 2 3 ∷ put-in 19 44 5 ∷ find 1
     ∷ gives (2 ∷ 0 ∷ 5 ∷ []) (row 19 44 5 ++ ((0x3a ∷ 0x60 ∷ replicate 10 0) ++ (row 1 2 3 ++ (0x40 ∷ replicate 11 0))))
     ∷ gives (1 ∷ 3 ∷ []) (row 19 44 5 ++ ((0x3a ∷ 0x60 ∷ replicate 10 0) ++ (row 1 2 3 ++ (0x40 ∷ replicate 11 0))))
     ∷ []
-unfolding fitting four row ran stockCall rowsIn rowOf lowNumber lowBytes rowBytes tableBytes sound soundBehind placeOf
+unfolding fitting four row ran stockCall rowsIn rowOf lowNumber lowBytes rowBytes tableBytes sound soundBehind passed
     heldOf stocked drawn
     lowestTerms gcd dividedFrom keyOf formOf usual wordOf digitsAfterOne digitsFrom
 columns = refl

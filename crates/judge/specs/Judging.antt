@@ -1,43 +1,41 @@
--- What judging a table gives, and what it then tells of its rows.
-use mathlib.Core.Path.{_≡_, refl, sym, _∙_}
-use mathlib.Core.Bool.{Bool, true, false, cond, not, _||_, _&&_}
+-- What judging a table gives.
+use mathlib.Core.Bool.{Bool, false, cond, not}
 use mathlib.Core.List.{List}
-use Prim.Native.Nat.{ℕ, _/_, _≤_, _<_}
-use native.Mathlib.Omega.{arith}
-use borrow.Author.Tests.{lt-ltb, le-ltb, ltb-false}
-use lib.Dec.{ltb}
-use lib.ListN.{length}
+use Prim.Native.Nat.{ℕ, _+_}
+use lib.Dec.{eqb}
+use Rattle.blocks.specs.declared.Block.{Block}
+use Rattle.blocks.specs.Blocks.{blockOf}
+use Rattle.families.specs.Published.{words1983}
+use Rattle.keys.specs.Keys.{keyOf}
 use Rattle.tables.specs.declared.Row.{Row}
 use Rattle.tables.specs.Layouts.{stockRows}
-use Rattle.tables.specs.Rows.{rowSize, roomOf, rowsIn}
-use Rattle.tables.specs.Sound.{sound, fitting}
-use Rattle.tables.specs.Tables.{plain-fits}
-use Rattle.outcomes.specs.Stocking.{wrongSize, wrongTable, unsoundTable}
+use Rattle.tables.specs.Rows.{rowSize, rowsIn}
+use Rattle.tables.specs.Sound.{sound}
+use Rattle.tables.specs.Stocks.{passed}
+use Rattle.outcomes.specs.BlockOrder.{blockBelow}
+use Rattle.outcomes.specs.Stocking.{wrongTable, unsoundTable}
 use Rattle.judge.specs.declared.Judged.{Judged}
 use Rattle.judge.specs.declared.Judged.the-variants.{Sound, WrongTable, Unsound}
 
-unfoldable pub judged : ℕ → List ℕ → Judged
-judged used m =
-    cond (wrongTable stockRows m .1) WrongTable (cond (unsoundTable stockRows used m .1) Unsound Sound)
+abbrev pub blockOfRow : Row → Block
+blockOfRow r = blockOf (keyOf words1983 (r .numerator) (r .denominator))
 
-module _ (used : ℕ) (m : List ℕ) where
-  abbrev rows : List Row
-  rows = rowsIn (rowSize stockRows) used m
+-- whether a row's key stands before another
+abbrev pub rowBefore : Block → Row → Bool
+rowBefore key r = blockBelow (blockOfRow r) key
 
-  pub judged-wrong : true ≡ wrongTable stockRows m .1 → WrongTable ≡ judged used m
-  unfolding judged
-  judged-wrong e = rw (← e)
+-- the two tests of a row by its key
+abbrev pub fallsAt : ℕ → Block → Block → Bool
+fallsAt i last block = cond (eqb i 0) false (not (blockBelow last block))
 
-  module _ (whole : false ≡ wrongTable stockRows m .1) where
-    pub judged-over : roomOf stockRows m < used → Unsound ≡ judged used m
-    unfolding judged
-    judged-over h = rw (← whole, lt-ltb (roomOf stockRows m) used h)
+abbrev pub passedAt : ℕ → ℕ → Block → Block → ℕ
+passedAt below i block key = cond (eqb below i) (cond (blockBelow block key) (i + 1) below) below
 
-    pub judged-rows : used ≤ roomOf stockRows m → {t : Bool} → t ≡ sound rows → cond t Sound Unsound ≡ judged used m
-    unfolding judged
-    judged-rows h {t} e =
-        rw (← whole, le-ltb (roomOf stockRows m) used h, ← e, plain-fits used m) (by-test t)
-      where
-        by-test : (t : Bool) → cond t Sound Unsound ≡ cond (not (t && true)) Unsound Sound
-        by-test true = refl
-        by-test false = refl
+unfoldable pub judgedRows : Block → List Row → Judged
+judgedRows key rows = cond (sound rows) (Sound (passed (rowBefore key) rows)) Unsound
+
+unfoldable pub judged : Block → ℕ → List ℕ → Judged
+judged key used m =
+    cond (wrongTable stockRows m .1) WrongTable
+    (cond (unsoundTable stockRows used m .1) Unsound
+    (Sound (passed (rowBefore key) (rowsIn (rowSize stockRows) used m))))

@@ -1,4 +1,5 @@
 pub mod Judging
 pub mod Reading
 pub mod Rising
+pub mod Passing
 pub mod Callers

@@ -1,6 +1,6 @@
 -- The rows judged one after the other by their keys: what is left decides.
-use mathlib.Core.Path.{_≡_, refl, sym, _∙_}
-use mathlib.Core.Bool.{Bool, true, false, cond, not, _&&_}
+use mathlib.Core.Path.{_≡_, refl, sym, _∙_, ap}
+use mathlib.Core.Bool.{Bool, true, false, cond, not, _&&_, false≢true}
 use mathlib.Core.List.{List, [], _∷_}
 use Prim.Native.Nat.{ℕ, zero, suc, _+_, _*_, _-_, _≤_, _<_}
 use native.Mathlib.Numerals.{add-one}
@@ -10,10 +10,8 @@ use lib.Dec.{eqb}
 use lib.ListN.{drop}
 use Rattle.bits.specs.Texts.{Bytes}
 use Rattle.blocks.specs.declared.Block.{Block}
-use Rattle.blocks.specs.Blocks.{blockOf}
 use Rattle.families.specs.Published.{words1983}
 use Rattle.fractions.specs.Fractions.{gcd}
-use Rattle.keys.specs.Keys.{keyOf}
 use Rattle.outcomes.specs.BlockOrder.{blockBelow, block-below}
 use Rattle.spell.specs.declared.Spelled.the-variants.{Key, ZeroDenominator}
 use Rattle.spell.specs.Spelling.{spelling}
@@ -24,9 +22,7 @@ use Rattle.tables.specs.Sound.{isRow, rowBelow, soundBehind, sound}
 use Rattle.tables.specs.Order.{row-positive}
 use Rattle.tables.specs.Numbers.{row-small, bytes-dropped}
 use Rattle.tables.specs.Tables.{rowsFrom, rows-next, rows-end}
-
-abbrev pub blockOfRow : Row → Block
-blockOfRow r = blockOf (keyOf words1983 (r .numerator) (r .denominator))
+use Rattle.judge.specs.Judging.{blockOfRow, fallsAt}
 
 -- what spelling a row's ratio tells of the row
 module _ (r : Row) where
@@ -79,25 +75,25 @@ LastAt m (suc j) last = (last ≡ blockOfRow (rowIn m j)) × (1 ≤ rowIn m j .d
 pub record Rising (m : List ℕ) (used : ℕ) (last : Block) (i : ℕ) : Type 0 where
   pub within : i ≤ used
   pub left : sound (rowsIn 12 used m) ≡ leftAt m used i
-  pub key : LastAt m i last
+  pub before : LastAt m i last
 
-pub rising-start : (m : List ℕ) (used : ℕ) (b : Block) → Rising m used b 0
-rising-start m used b =
+pub rising-start : (m : List ℕ) (used : ℕ) (last : Block) → Rising m used last 0
+rising-start m used last =
     let same : used - 0 ≡ used = omega arith in
-    record { within = omega arith; left = rw same; key = tt }
+    record { within = omega arith; left = rw same; before = tt }
 
 pub rising-end : {m : List ℕ} {used : ℕ} {last : Block} (i : ℕ) → Rising m used last i → used ≤ i
-    → true ≡ sound (rowsIn 12 used m)
+    → sound (rowsIn 12 used m) ≡ true
 unfolding sound soundBehind
-rising-end {m} {used} zero g h = sym (g .left ∙ rw (rows-end 12 m used 0 h))
-rising-end {m} {used} (suc i) g h = sym (g .left ∙ rw (rows-end 12 m used (suc i) h))
+rising-end {m} {used} zero g h = g .left ∙ rw (rows-end 12 m used 0 h)
+rising-end {m} {used} (suc i) g h = g .left ∙ rw (rows-end 12 m used (suc i) h)
 
 module _ (m : List ℕ) (used : ℕ) (last : Block) where
   pub rising-unsound : (i : ℕ) → Rising m used last i → i < used → isRow (rowIn m i) ≡ false
-      → false ≡ sound (rowsIn 12 used m)
+      → sound (rowsIn 12 used m) ≡ false
   unfolding sound soundBehind
-  rising-unsound zero g h e = sym (g .left ∙ rw (rows-next 12 m used 0 h, e))
-  rising-unsound (suc i) g h e = sym (g .left ∙ rw (rows-next 12 m used (suc i) h, e))
+  rising-unsound zero g h e = g .left ∙ rw (rows-next 12 m used 0 h, e)
+  rising-unsound (suc i) g h e = g .left ∙ rw (rows-next 12 m used (suc i) h, e)
 
   module _ (small : Bytes m) (b : Block) where
     -- keys stand as the rows do
@@ -112,28 +108,33 @@ module _ (m : List ℕ) (used : ℕ) (last : Block) where
         (block-below words1983 (r .numerator) (r .denominator) (s .numerator) (s .denominator) (k .1) (row-positive s e)
         (x .numerator) (x .denominator) (y .numerator) (y .denominator))
 
-    pub rising-falls : (i : ℕ) → Rising m used last i → i < used → 0 < i
-        → (isRow (rowIn m i) ≡ true) × (b ≡ blockOfRow (rowIn m i)) → blockBelow last b ≡ false
-        → false ≡ sound (rowsIn 12 used m)
-    unfolding sound soundBehind
-    rising-falls zero g h k e f = absurd (omega arith)
-    rising-falls (suc i) g h k (good, same) f =
-        sym (g .left ∙ rw (rows-next 12 m used (suc i) h, good, ← below-rows i (g .key) good same, f))
+    not-falls : (t u : Bool) → not t ≡ u → t ≡ not u
+    not-falls true u e = ap not e
+    not-falls false u e = ap not e
 
-    -- one row more; the first has none before it
+    pub rising-falls : (i : ℕ) → Rising m used last i → i < used
+        → (isRow (rowIn m i) ≡ true) × (b ≡ blockOfRow (rowIn m i)) → fallsAt i last b ≡ true
+        → sound (rowsIn 12 used m) ≡ false
+    unfolding sound soundBehind
+    rising-falls zero g h k f = absurd (false≢true f)
+    rising-falls (suc i) g h (good, same) f =
+        let less = not-falls (blockBelow last b) true (rw (ne-eqb (suc i) 0 (λ z. omega arith)) at f) in
+        g .left ∙ rw (rows-next 12 m used (suc i) h, good, ← below-rows i (g .before) good same, less)
+
+    -- one row more
     pub rising-more : (i : ℕ) → Rising m used last i → i < used
-        → (isRow (rowIn m i) ≡ true) × (b ≡ blockOfRow (rowIn m i)) → (0 < i → blockBelow last b ≡ true)
+        → (isRow (rowIn m i) ≡ true) × (b ≡ blockOfRow (rowIn m i)) → fallsAt i last b ≡ false
         → Rising m used b (i + 1)
     unfolding sound soundBehind
     rising-more zero g h (good, same) f = record {
       within = h;
       left = g .left ∙ rw (rows-next 12 m used 0 h, good);
-      key = (same, row-positive (rowIn m 0) good);
+      before = (same, row-positive (rowIn m 0) good);
     }
     rising-more (suc i) g h (good, same) f =
+        let less = not-falls (blockBelow last b) false (rw (ne-eqb (suc i) 0 (λ z. omega arith)) at f) in
         rw add-one record {
           within = h;
-          left = g .left
-              ∙ rw (rows-next 12 m used (suc i) h, good, ← below-rows i (g .key) good same, f (omega arith));
-          key = (same, row-positive (rowIn m (suc i)) good);
+          left = g .left ∙ rw (rows-next 12 m used (suc i) h, good, ← below-rows i (g .before) good same, less);
+          before = (same, row-positive (rowIn m (suc i)) good);
         }

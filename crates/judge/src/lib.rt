@@ -3,15 +3,14 @@ use blocks::Block;
 use spell::Spelled;
 use tables::Row;
 ghost use mathlib.Core.Path.{_≡_};
-ghost use Prim.Native.Nat.{_*_, _≤_};
+ghost use Prim.Native.Nat.{_+_, _*_, _^_, _≤_, _<_};
 ghost use lib.ListN.{length};
 ghost use Rattle.tables.specs.Layouts.{stockRows};
 ghost use Rattle.tables.specs.Rows.{rowSize, rowsIn};
-ghost use Rattle.tables.specs.Sound.{sound};
 ghost use Rattle.tables.specs.Moves.{rowAt};
 ghost use Rattle.outcomes.specs.BlockOrder.{blockBelow};
 ghost use Rattle.outcomes.specs.Stocking.{wrongSize};
-ghost use Rattle.judge.specs.Judging.{judged};
+ghost use Rattle.judge.specs.Judging.{fallsAt, passedAt, judgedRows, judged};
 
 mod row;
 
@@ -47,13 +46,47 @@ pub fn is_below(a: Block, b: Block) -> bool
     a.low < b.low
 }
 
-// Whether the used rows are in lowest terms and strictly rising ratio, with denominators and quantities of at least 1.
-// One Euclid a row gives its key and its greatest common divisor.
-fn are_sound(m: &[u8], used: usize) -> bool
+// Whether the key of row i doesn't stand behind that of the row before it. The first row has none before it.
+fn falls(i: usize, last: Block, block: Block) -> bool
+    ensures { λ r. ⌜ r ≡ fallsAt i last block ⌝ }
+{
+    if i == 0 {
+        return false;
+    }
+    if is_below(last, block) {
+        return false;
+    }
+    true
+}
+
+// How many rows at the front stand before a key, where below of the i rows in front of this one do.
+fn pass(below: usize, i: usize, block: Block, key: Block) -> usize
+    requires { ⌜ i + 1 < 2 ^ 64 ⌝ }
+    ensures { λ r. ⌜ r ≡ passedAt below i block key ⌝ }
+{
+    if below == i {
+        if is_below(block, key) {
+            return i + 1;
+        }
+    }
+    below
+}
+
+// What a table's memory is; of a sound table, how many rows at its front stand before a key.
+pub enum Judged {
+    Sound { below: usize },
+    WrongTable,
+    Unsound,
+}
+
+// Judges the used rows: lowest terms, denominator and quantity of at least 1, strictly rising ratio. One Euclid a row
+// gives its key and its greatest common divisor.
+fn judge_rows(m: &[u8], used: usize, key: Block) -> Judged
     requires { ⌜ rowSize stockRows * used ≤ length (now m) ⌝ }
-    ensures { λ r. ⌜ r ≡ sound (rowsIn (rowSize stockRows) used (now (m .entry))) ⌝ }
+    ensures { λ r. ⌜ r ≡ judgedRows key (rowsIn (rowSize stockRows) used (now (m .entry))) ⌝ }
 {
     let mut last = Block { high: 0, low: 0 };
+    let mut below = 0;
     let mut i = 0;
     while i < used {
         let row = row::row_from(m, ROW * i);
@@ -65,23 +98,22 @@ fn are_sound(m: &[u8], used: usize) -> bool
             divisor,
         } = spelled
         else {
-            return false;
+            return Judged::Unsound;
         };
         if divisor != 1 {
-            return false;
+            return Judged::Unsound;
         }
         if quantity == 0 {
-            return false;
+            return Judged::Unsound;
         }
-        if 0 < i {
-            if is_below(last, block) {} else {
-                return false;
-            }
+        if falls(i, last, block) {
+            return Judged::Unsound;
         }
+        below = pass(below, i, block, key);
         last = block;
         i += 1;
     }
-    true
+    Judged::Sound { below }
 }
 
 // Whether memory of this many bytes isn't of 1 to 2,048 whole rows.
@@ -98,15 +130,9 @@ fn is_wrong(length: usize) -> bool
     2048 < room
 }
 
-// What a table's memory is.
-pub enum Judged {
-    Sound,
-    WrongTable,
-    Unsound,
-}
-
-pub fn judge(m: &[u8], used: usize) -> Judged
-    ensures { λ r. ⌜ r ≡ judged used (now (m .entry)) ⌝ }
+// Judges memory of which so many rows are said to be used, for a call that asks where a key stands.
+pub fn judge(m: &[u8], used: usize, key: Block) -> Judged
+    ensures { λ r. ⌜ r ≡ judged key used (now (m .entry)) ⌝ }
 {
     if is_wrong(m.len()) {
         return Judged::WrongTable;
@@ -114,8 +140,5 @@ pub fn judge(m: &[u8], used: usize) -> Judged
     if m.len() / ROW < used {
         return Judged::Unsound;
     }
-    if are_sound(m, used) {
-        return Judged::Sound;
-    }
-    Judged::Unsound
+    judge_rows(m, used, key)
 }

@@ -9,7 +9,7 @@ use lib.Seq.{drop-at}
 use Rattle.tables.specs.declared.Row.{Row}
 use Rattle.tables.specs.Layouts.{stockRows}
 use Rattle.tables.specs.Rows.{rowSize, rowsIn}
-use Rattle.tables.specs.Stocks.{heldOf, placeOf}
+use Rattle.tables.specs.Stocks.{heldOf, indexOf}
 use Rattle.tables.specs.Moves.{rowAt}
 use Rattle.tables.specs.Moved.{row-at}
 use Rattle.tables.specs.Tables.{rows-drop, rows-next, rows-end}
@@ -47,7 +47,7 @@ module _ (used p q : ℕ) (m : List ℕ) where
   pub list-faulty : (f : Fault) → Faulty f ≡ sought used p q m
       → refuses (numberOfFault f) 5 m ≡ stockCall stockRows (list-from p q) used m
   list-faulty f e =
-      rw (listed-five (placeOf p q rows) (drop (placeOf p q rows) rows)) at
+      rw (listed-five (indexOf p q rows) (drop (indexOf p q rows) rows)) at
       (told-faulty used p q m (list-from p q) refl f e)
 
   pub list-here : (i : ℕ) (r : Row) → Here i r ≡ sought used p q m

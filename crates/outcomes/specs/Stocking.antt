@@ -8,7 +8,7 @@ use Rattle.keys.specs.Size.{limit}
 use Rattle.tables.specs.declared.Row.{Row}
 use Rattle.tables.specs.Rows.{Layout, rowSize, roomOf, rowsIn, tableAfter}
 use Rattle.tables.specs.Sound.{sound, fitting}
-use Rattle.tables.specs.Stocks.{placeOf, heldOf, stocked, drawn}
+use Rattle.tables.specs.Stocks.{indexOf, heldOf, stocked, drawn}
 use Rattle.outcomes.specs.Outcomes.{Outcome, Refusal, called}
 use Rattle.outcomes.specs.Refusals.{zeroDenominator}
 
@@ -53,10 +53,10 @@ listedAt i [] = 0 ∷ 0 ∷ 0 ∷ 0 ∷ 0 ∷ []
 listedAt i (r ∷ l) = 1 ∷ i ∷ r .numerator ∷ r .denominator ∷ r .quantity ∷ []
 
 abbrev pub stockValues : List Row → Call → List ℕ
-stockValues rows (put-in p q n) = length (stocked p q n rows) ∷ placeOf p q rows ∷ (heldOf p q rows + n) ∷ []
-stockValues rows (take-out p q n) = length (drawn p q n rows) ∷ placeOf p q rows ∷ (heldOf p q rows - n) ∷ []
-stockValues rows (find p q) = placeOf p q rows ∷ heldOf p q rows ∷ []
-stockValues rows (list-from p q) = let i = placeOf p q rows in listedAt i (drop i rows)
+stockValues rows (put-in p q n) = length (stocked p q n rows) ∷ indexOf p q rows ∷ (heldOf p q rows + n) ∷ []
+stockValues rows (take-out p q n) = length (drawn p q n rows) ∷ indexOf p q rows ∷ (heldOf p q rows - n) ∷ []
+stockValues rows (find p q) = indexOf p q rows ∷ heldOf p q rows ∷ []
+stockValues rows (list-from p q) = let i = indexOf p q rows in listedAt i (drop i rows)
 
 -- memory after a call
 abbrev pub stockMemory : Layout → List Row → Call → List ℕ → List ℕ

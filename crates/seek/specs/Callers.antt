@@ -14,7 +14,7 @@ use Rattle.tables.specs.declared.Row.{Row}
 use Rattle.tables.specs.Layouts.{stockRows}
 use Rattle.tables.specs.Rows.{rowSize, roomOf, rowsIn}
 use Rattle.tables.specs.Sound.{sound, fitting}
-use Rattle.tables.specs.Stocks.{placeOf}
+use Rattle.tables.specs.Stocks.{indexOf}
 use Rattle.tables.specs.Moved.{count}
 use Rattle.tables.specs.Order.{sound-facts, Above}
 use Rattle.tables.specs.Parts.{Here as Found, Absent as Missing, Parted, here, absent, parted}
@@ -61,7 +61,7 @@ module _ (used p q : ℕ) (m : List ℕ) where
     Tells o (Faulty f) = refuses (numberOfFault f) (length values) m ≡ o
 
     told-place : Fine used m → Parted p q rows
-        → let i = placeOf p q rows in Tells rest (soughtAt p q i (drop i rows))
+        → let i = indexOf p q rows in Tells rest (soughtAt p q i (drop i rows))
     told-place fine (here {i} {r} h) =
         let there : drop i rows ≡ r ∷ h .behind =
         ap (drop i) (h .parts) ∙ drop-at (h .before) (r ∷ h .behind) i (h .index) in
@@ -82,7 +82,7 @@ module _ (used p q : ℕ) (m : List ℕ) where
         (fitting stockRows used m) (eqb q 0) refl refl refl refl)
       where
         i : ℕ
-        i = placeOf p q rows
+        i = indexOf p q rows
 
         refused : ℕ → Outcome
         refused n = refuses n (length values) m

@@ -1,67 +1,81 @@
--- The keys find where a ratio stands.
-use mathlib.Core.Path.{_≡_, refl, sym, _∙_}
-use mathlib.Core.Bool.{true, false}
+-- The keys find where a ratio stands, and lowest terms which row is its.
+use mathlib.Core.Path.{_≡_, refl, sym, _∙_, ap}
+use mathlib.Core.Bool.{Bool, true, false, _&&_}
 use mathlib.Core.List.{List, [], _∷_}
-use Prim.Native.Nat.{ℕ, _*_, _≤_}
-use borrow.Author.Tests.{le-ltb, ltb-false, ne-eqb}
-use native.Mathlib.Omega.{arith}
-use lib.Dec.{eqb, ltb}
+use Prim.Native.Nat.{ℕ, _*_, _/_, _≤_}
+use native.Mathlib.Nat.{div-one}
+use borrow.Author.Tests.{eqb-true, eqb-false, eq-eqb}
+use lib.Dec.{eqb}
 use Rattle.blocks.specs.declared.Block.{Block}
 use Rattle.blocks.specs.Blocks.{blockOf}
 use Rattle.families.specs.Published.{words1983}
-use Rattle.keys.specs.Keys.{keyOf}
+use Rattle.fractions.specs.Fractions.{Ratio, _over_, gcd, lowestTerms}
+use Rattle.fractions.specs.Euclid.{lowest-same}
+use Rattle.keys.specs.Keys.{keyOf, valueOfKey}
+use Rattle.keys.specs.Back.{key-value}
+use Rattle.keys.specs.Order.{key-equal}
 use Rattle.keys.specs.Size.{limit}
 use Rattle.tables.specs.declared.Row.{Row}
 use Rattle.tables.specs.Sound.{isRow}
-use Rattle.tables.specs.Stocks.{isBelow, placeOf}
-use Rattle.tables.specs.Order.{Above, above-more, Sound, row-positive}
+use Rattle.tables.specs.Stocks.{isBelow, isOf, passed, indexOf}
+use Rattle.tables.specs.Order.{Sound, row-parts, row-positive}
 use Rattle.tables.specs.Numbers.{Small}
 use Rattle.tables.specs.Tables.{AllSmall}
-use Rattle.tables.specs.Searching.{passed, Never, Falls}
-use Rattle.outcomes.specs.BlockOrder.{blockBelow, block-below}
-use Rattle.seek.specs.Seeking.{keyOfRow, rowBefore}
+use Rattle.outcomes.specs.BlockOrder.{block-below}
+use Rattle.judge.specs.Judging.{rowBefore}
+use Rattle.seek.specs.Seeking.{sameTerms}
 
--- keys stand to a row's as the ratios do
-module _ (p q : ℕ) (positive : 1 ≤ q) (a : p ≤ limit) (b : q ≤ limit) where
-  abbrev k : Block
-  k = blockOf (keyOf words1983 p q)
+module _ (p q : ℕ) (positive : 1 ≤ q) where
+  -- so many rows stand before the key as before the ratio
+  pub key-index : p ≤ limit → q ≤ limit → (l : List Row) → Sound l → AllSmall l
+      → passed (rowBefore (blockOf (keyOf words1983 p q))) l ≡ indexOf p q l
+  unfolding passed
+  key-index a b [] f s = refl
+  key-index a b (x ∷ l) (good, (high, fine)) (s, m) =
+      rw (
+        block-below words1983 (x .numerator) (x .denominator) p q (row-positive x good) positive (s .numerator)
+            (s .denominator)
+            a
+            b,
+        key-index a b l fine m,
+      )
 
-  module _ (x : Row) (good : isRow x ≡ true) (s : Small x) where
-    some : 1 ≤ x .denominator
-    some = row-positive x good
+  -- a row is of p/q where its terms are the lowest terms of p/q
+  module _ (x : Row) (good : isRow x ≡ true) where
+    own : lowestTerms (x .numerator) (x .denominator) ≡ (x .numerator over x .denominator)
+    unfolding lowestTerms
+    own =
+        let one = eqb-true (gcd (x .numerator) (x .denominator)) 1 (row-parts x good .1 .0) in
+        rw (one, div-one, div-one)
 
-    none : eqb (x .denominator) 0 ≡ false
-    none = ne-eqb (x .denominator) 0 (λ e. omega (arith, some))
+    lowest : x .numerator * q ≡ p * x .denominator → (x .numerator over x .denominator) ≡ lowestTerms p q
+    lowest e =
+        let some = row-positive x good in
+        sym own ∙ sym (key-value words1983 (x .numerator) (x .denominator) some)
+        ∙ ap (valueOfKey words1983) (key-equal words1983 (x .numerator) (x .denominator) p q some positive .1 e)
+        ∙ key-value words1983 p q positive
 
-    before-below : rowBefore k x ≡ isBelow p q x
-    unfolding keyOfRow
-    before-below =
-        rw none (block-below words1983 (x .numerator) (x .denominator) p q some positive (s .numerator)
-        (s .denominator) a b)
+    pub terms-tell : isOf p q x ≡ sameTerms x (lowestTerms p q .num) (lowestTerms p q .den)
+    terms-tell = by-test (isOf p q x) refl
+      where
+        v : Ratio
+        v = lowestTerms p q
 
-    pub behind-above : blockBelow k (keyOfRow x) ≡ ltb (p * x .denominator) (x .numerator * q)
-    unfolding keyOfRow
-    behind-above =
-        rw none (block-below words1983 p q (x .numerator) (x .denominator) positive some a b (s .numerator)
-        (s .denominator))
+        other : (t u : Bool) → eqb (x .numerator) (v .num) ≡ t → eqb (x .denominator) (v .den) ≡ u
+            → isOf p q x ≡ false → false ≡ (t && u)
+        other true true f g e =
+            let same : x .numerator * q ≡ p * x .denominator =
+            rw (eqb-true (x .numerator) (v .num) f, eqb-true (x .denominator) (v .den) g)
+            (sym (lowest-same p q positive)) in
+            absurd (eqb-false (x .numerator * q) (p * x .denominator) e same)
+        other true false f g e = refl
+        other false u f g e = refl
 
-  -- so the key's place is the ratio's
-  pub key-place : (l : List Row) → Sound l → AllSmall l → passed (rowBefore k) l ≡ placeOf p q l
-  unfolding passed placeOf
-  key-place [] f s = refl
-  key-place (x ∷ l) (good, (high, fine)) (s, m) = rw (before-below x good s, key-place l fine m)
-
-  -- and rows before it stand in front
-  above-never : (l : List Row) → Sound l → AllSmall l → Above p q l → Never (rowBefore k) l
-  above-never [] f s h = tt
-  above-never (x ∷ l) (good, (high, fine)) (s, m) (e, h) =
-      (before-below x good s ∙ le-ltb (x .numerator * q) (p * x .denominator) (omega arith), above-never l fine m h)
-
-  pub rows-fall : (l : List Row) → Sound l → AllSmall l → Falls (rowBefore k) l
-  rows-fall [] f s = tt
-  rows-fall (x ∷ l) (good, (high, fine)) (s, m) = (
-    λ e. above-never l fine m
-        (above-more p q (x .numerator) (x .denominator) l positive
-        (ltb-false (x .numerator * q) (p * x .denominator) (sym (before-below x good s) ∙ e)) high),
-    rows-fall l fine m,
-  )
+        by-test : (t : Bool) → isOf p q x ≡ t → t ≡ sameTerms x (v .num) (v .den)
+        by-test true e =
+            let same = lowest (eqb-true (x .numerator * q) (p * x .denominator) e) in
+            sym (rw (
+              eq-eqb (x .numerator) (v .num) (ap (λ (r : Ratio). r .num) same),
+              eq-eqb (x .denominator) (v .den) (ap (λ (r : Ratio). r .den) same),
+            ))
+        by-test false e = other _ _ refl refl e

@@ -11,4 +11,3 @@ pub mod Numbers
 pub mod Tables
 pub mod Moved
 pub mod Sizes
-pub mod Searching
