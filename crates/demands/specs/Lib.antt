@@ -5,6 +5,8 @@ pub mod Demands
 pub mod Met
 pub mod Lister
 pub mod ListerMet
+pub mod Stock
+pub mod StockMet
 pub mod Unique
 pub mod UniqueInC
 pub mod Table

@@ -37,7 +37,7 @@ use Rattle.demands.specs.Again.{Again}
 use Rattle.demands.specs.Ordered.{Ordered}
 
 -- every call is `called` with its order
-refuses-first : (order : List Refusal) (values before after : List ℕ)
+pub refuses-first : (order : List Refusal) (values before after : List ℕ)
     → Refuses (called order values before after) order before
 refuses-first order values before after = record {
   number = called-number order values before after;

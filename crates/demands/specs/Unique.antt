@@ -13,6 +13,8 @@ use Rattle.outcomes.specs.Packing.{columnToText, textToColumn}
 use Rattle.outcomes.specs.Comparing.{compareText}
 use Rattle.outcomes.specs.Cutting.{cutText}
 use Rattle.outcomes.specs.Stepping.{startText, stepText}
+use Rattle.outcomes.specs.Stocking.{put-in, take-out, find, list-from, stockCall}
+use Rattle.tables.specs.Layouts.{stockRows}
 use Rattle.reduce.specs.Answers.{reducedAs, reducedOf, reduced-told}
 use Rattle.write.specs.Answers.{writtenAs, writtenOf, written-told}
 use Rattle.read.specs.Answers.{textReadAs, textReadOf, text-read-told, columnReadAs, columnReadOf, column-read-told}
@@ -20,6 +22,9 @@ use Rattle.pack.specs.Answers.{unpackedAs, unpackedOf, unpacked-told, packedAs,
 use Rattle.step.specs.declared.Stepped.{Stepped}
 use Rattle.compare.specs.Answers.{comparedAs, comparedOf, compared-told}
 use Rattle.cut.specs.Answers.{shortenedAs, shortenedOf, shortened-told}
+use Rattle.stock.specs.Answers.{stockedAs, stockedOf, stocked-told}
+use Rattle.draw.specs.Answers.{takenAs, takenOf, taken-told}
+use Rattle.lookup.specs.Answers.{foundAs, foundOf, found-told, listedAs, listedOf, listed-told}
 use Rattle.fields.specs.declared.Field.{Field}
 use Rattle.list.specs.declared.Listed.{Listed}
 use Rattle.list.specs.Listing.{Lists}
@@ -64,6 +69,19 @@ step-unique k used z r s e f =
     let (met, numbers) = one (r .met) (s .met) (placeAs (r .place)) (placeAs (s .place)) e f in
     let place : r .place ≡ s .place = sym (place-told (r .place)) ∙ ap placeIn numbers ∙ place-told (s .place) in
     λ i. record { met = met i; place = place i }
+
+-- the calls of the stock table
+pub put-in-unique : (p q n used : ℕ) (m : List ℕ) → Determined stockedAs (stockCall stockRows (put-in p q n) used m)
+put-in-unique p q n used m = determined stockedAs stockedOf stocked-told (stockCall stockRows (put-in p q n) used m)
+
+pub take-out-unique : (p q n used : ℕ) (m : List ℕ) → Determined takenAs (stockCall stockRows (take-out p q n) used m)
+take-out-unique p q n used m = determined takenAs takenOf taken-told (stockCall stockRows (take-out p q n) used m)
+
+pub find-unique : (p q used : ℕ) (m : List ℕ) → Determined foundAs (stockCall stockRows (find p q) used m)
+find-unique p q used m = determined foundAs foundOf found-told (stockCall stockRows (find p q) used m)
+
+pub list-from-unique : (p q used : ℕ) (m : List ℕ) → Determined listedAs (stockCall stockRows (list-from p q) used m)
+list-from-unique p q used m = determined listedAs listedOf listed-told (stockCall stockRows (list-from p q) used m)
 
 -- the lister's calls, at a stretch and at the end of the input
 pub list-unique : (s : Field) (input m : List ℕ) {r t : Listed} {e f : List ℕ} → Lists s input m r e

@@ -11,6 +11,10 @@ use Rattle.outcomes.specs.Packing.{columnToText, textToColumn}
 use Rattle.outcomes.specs.Comparing.{compareText}
 use Rattle.outcomes.specs.Cutting.{cutText}
 use Rattle.outcomes.specs.Stepping.{startText, stepText}
+use Rattle.outcomes.specs.Stocking.{Call, stockCall}
+use Rattle.tables.specs.Layouts.{stockRows}
+use Rattle.stock_structs.specs.Structs.{ofStocked, stockedIn, stocked-told, ofFound, foundIn, found-told}
+use Rattle.stock_structs.specs.Structs.{ofListed, listedIn, listed-told}
 use Rattle.lcf.specs.declared.Stepped.{Stepped}
 use Rattle.lcf.specs.Structs.{ofWritten, ofRatio, ofText, ofColumn, ofStanding, ofStarted, ofStepped}
 use Rattle.lcf.specs.Laws.{writtenIn, written-told, ratioIn, ratio-told, textIn, text-told, columnIn, column-told}
@@ -47,3 +51,13 @@ lcf-start-unique k = determined ofStarted startedIn started-told (startText k)
 pub lcf-step-unique : (k : List ℕ) (used : ℕ) (z : Bool) (r s : Stepped) → ofStepped r ≡ stepText k used z
     → ofStepped s ≡ stepText k used z → r ≡ s
 lcf-step-unique k used z r s e f = sym (stepped-told r) ∙ ap steppedIn (e ∙ sym f) ∙ stepped-told s
+
+-- putting in and taking out answer by one struct
+pub lcf-stocked-unique : (c : Call) (used : ℕ) (m : List ℕ) → Determined ofStocked (stockCall stockRows c used m)
+lcf-stocked-unique c used m = determined ofStocked stockedIn stocked-told (stockCall stockRows c used m)
+
+pub lcf-found-unique : (c : Call) (used : ℕ) (m : List ℕ) → Determined ofFound (stockCall stockRows c used m)
+lcf-found-unique c used m = determined ofFound foundIn found-told (stockCall stockRows c used m)
+
+pub lcf-listed-unique : (c : Call) (used : ℕ) (m : List ℕ) → Determined ofListed (stockCall stockRows c used m)
+lcf-listed-unique c used m = determined ofListed listedIn listed-told (stockCall stockRows c used m)

@@ -10,7 +10,7 @@ use Rattle.outcomes.specs.Outcomes.{Answer, Refusal, called}
 use Rattle.outcomes.specs.Refusals.{zeroDenominator}
 use Rattle.outcomes.specs.Stocking.{Call, denominatorOf, wrongTable, stockRefusals}
 use Rattle.outcomes.specs.Stocking.{stockValues, stockMemory, stockCall}
-use Rattle.histories.specs.Histories.{State, rowsOf, outcomeOf, stepped, changed, answerOf, answers}
+use Rattle.histories.specs.Histories.{emptyIn, State, rowsOf, outcomeOf, stepped, changed, answerOf, answers}
 use Rattle.histories.specs.Histories.{Numbers, AllNumbers}
 use Rattle.histories.specs.Holding.{Holds, holds-empty, holds-clear}
 use Rattle.histories.specs.Steps.{steps}
@@ -71,8 +71,8 @@ module _ (L M : Layout) where
   -- from empty tables with room for as many rows
   pub answers-same : (calls : List Call) (k m : List ℕ) → AllNumbers calls → wrongTable L k .1 ≡ false
       → wrongTable M m .1 ≡ false → roomOf L k ≡ roomOf M m
-      → answers L calls (record { used = 0; memory = k }) ≡ answers M calls (record { used = 0; memory = m })
+      → answers L calls (emptyIn k) ≡ answers M calls (emptyIn m)
   unfolding rowsIn
   answers-same calls k m b e f g =
-      answers-alike calls (record { used = 0; memory = k }) (record { used = 0; memory = m }) b
+      answers-alike calls (emptyIn k) (emptyIn m) b
       (record { left = holds-empty L k e; right = holds-empty M m f; rows = refl; room = g })

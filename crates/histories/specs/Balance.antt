@@ -12,7 +12,7 @@ use Rattle.tables.specs.Held.{held-at}
 use Rattle.tables.specs.Tables.{length-rows}
 use Rattle.outcomes.specs.Laws.{Clear}
 use Rattle.outcomes.specs.Stocking.{Call, wrongTable, unsoundTable}
-use Rattle.histories.specs.Histories.{State, rowsOf, stepped, after, putBy, takenBy, total}
+use Rattle.histories.specs.Histories.{emptyIn, State, rowsOf, stepped, after, putBy, takenBy, total}
 use Rattle.histories.specs.Histories.{Under, Zeros, AllNumbers}
 use Rattle.histories.specs.Holding.{Holds, holds-empty, holds-clear}
 use Rattle.histories.specs.Steps.{steps}
@@ -34,31 +34,31 @@ module _ (L : Layout) where
 
   -- from an empty table
   pub balance : (p q : ℕ) → 1 ≤ q → (calls : List Call) (m : List ℕ) → AllNumbers calls → wrongTable L m .1 ≡ false
-      → let empty : State = record { used = 0; memory = m } in
+      → let empty = emptyIn m in
       heldOf p q (rowsOf L (after L calls empty)) + total L (takenBy p q) calls empty ≡ total L (putBy p q) calls empty
   unfolding rowsIn heldOf
   balance p q k calls m b e =
-      let empty : State = record { used = 0; memory = m } in
+      let empty = emptyIn m in
       omega (arith, balance-after p q k calls empty b (holds-empty L m e))
 
   -- no call of such a history refuses by 2 or 16
   pub sound-after : (calls : List Call) (m : List ℕ) → AllNumbers calls → wrongTable L m .1 ≡ false
-      → let s = after L calls (record { used = 0; memory = m }) in
+      → let s = after L calls (emptyIn m) in
       Clear (wrongTable L (s .memory) ∷ unsoundTable L (s .used) (s .memory) ∷ [])
   sound-after calls m b e =
-      let s = after L calls (record { used = 0; memory = m }) in
-      let h : Holds L s = holds-after calls (record { used = 0; memory = m }) b (holds-empty L m e) in
+      let s = after L calls (emptyIn m) in
+      let h : Holds L s = holds-after calls (emptyIn m) b (holds-empty L m e) in
       (h .table, (holds-clear L s h, tt))
 
   -- each row's quantity is what was put in of its ratio less what was taken out
   pub row-balance : (calls : List Call) (m : List ℕ) → AllNumbers calls → wrongTable L m .1 ≡ false
-      → (i : ℕ) (none : Row) → let empty : State = record { used = 0; memory = m } in
+      → (i : ℕ) (none : Row) → let empty = emptyIn m in
       let s = after L calls empty in
       let r = getD (rowsOf L s) i none in
       i < s .used → r .quantity + total L (takenBy (r .numerator) (r .denominator)) calls empty
       ≡ total L (putBy (r .numerator) (r .denominator)) calls empty
   row-balance calls m b e i none h =
-      let empty : State = record { used = 0; memory = m } in
+      let empty = emptyIn m in
       let s = after L calls empty in
       let r = getD (rowsOf L s) i none in
       let fine : Holds L s = holds-after calls empty b (holds-empty L m e) in

@@ -17,6 +17,10 @@ pub record State : Type 0 where
   pub used : ℕ
   pub memory : List ℕ
 
+-- no row is used yet
+abbrev pub emptyIn : List ℕ → State
+emptyIn m = record { used = 0; memory = m }
+
 abbrev pub rowsOf : Layout → State → List Row
 rowsOf L s = rowsIn (rowSize L) (s .used) (s .memory)
 

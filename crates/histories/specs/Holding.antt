@@ -7,15 +7,16 @@ use native.Mathlib.Nat.{div-add-mod', mul-le-mul-left}
 use native.Mathlib.Omega.{arith}
 use borrow.Author.Tests.{le-ltb}
 use lib.ListN.{length, drop, replicate, length-append, length-replicate, length-drop}
-use lib.Seq.{drop-at, drop-drop, drop-append-add}
+use lib.Seq.{drop-drop, drop-append-add}
 use Rattle.bits.specs.Texts.{inFront}
 use Rattle.tables.specs.declared.Row.{Row}
 use Rattle.tables.specs.Rows.{Layout, rowSize, roomOf, rowsIn, tableBytes, tableAfter}
 use Rattle.tables.specs.Sound.{fitting}
 use Rattle.tables.specs.Order.{Sound, facts-sound}
+use Rattle.tables.specs.Moved.{table-behind}
 use Rattle.tables.specs.Tables.{length-rows, AllSmall, rows-back, fits-back, length-table}
 use Rattle.outcomes.specs.Stocking.{wrongTable, unsoundTable}
-use Rattle.histories.specs.Histories.{State, rowsOf, Zeros}
+use Rattle.histories.specs.Histories.{emptyIn, State, rowsOf, Zeros}
 
 -- sound rows within room, whose numbers have 32 bits
 pub record Holds (L : Layout) (s : State) : Type 0 where
@@ -48,7 +49,7 @@ module _ (L : Layout) where
   abbrev w : ℕ
   w = rowSize L
 
-  pub holds-empty : (m : List ℕ) → wrongTable L m .1 ≡ false → Holds L (record { used = 0; memory = m })
+  pub holds-empty : (m : List ℕ) → wrongTable L m .1 ≡ false → Holds L (emptyIn m)
   unfolding rowsIn fitting
   holds-empty m e = record { table = e; within = omega arith; rows = tt; small = tt; fits = refl }
 
@@ -87,15 +88,12 @@ module _ (L : Layout) where
     -- where zeros stand behind the used rows, they do so again
     pub next-zeros : Zeros (drop (w * s .used) m) → Zeros (drop (w * length rows) (next .memory))
     next-zeros z =
-        let k = length (rowsOf L s) - length rows in
-        let size : length text ≡ w * length rows + w * k = rw (length-append, length-table, length-replicate) in
-        let few : s .used ≤ length rows + k = omega (arith, length-rows w (s .used) m) in
-        let more : w * s .used ≤ length text = rw size (omega (arith, mul-le-mul-left w few)) in
-        let rest : drop (length text) m ≡ drop (length text - w * s .used) (drop (w * s .used) m) =
-        let all : length text ≡ w * s .used + (length text - w * s .used) = omega arith in
-        rw drop-drop (ap (λ (n : ℕ). drop n m) all) in
-        rw (append-assoc, drop-at (tableBytes L rows) _ (w * length rows) (length-table L rows), rest)
-        (zeros-more (w * k) _ (zeros-drop (length text - w * s .used) (drop (w * s .used) m) z))
+        let k = s .used - length rows in
+        let more : w * (length rows + k) ≡ w * s .used + w * (length rows + k - s .used) =
+        let sum : length rows + k ≡ s .used + (length rows + k - s .used) = omega arith in
+        omega (arith, ap (λ (n : ℕ). w * n) sum) in
+        rw (table-behind L (s .used) m rows, more, ← drop-drop (w * (length rows + k - s .used)) (w * s .used) m)
+        (zeros-more (w * k) _ (zeros-drop (w * (length rows + k - s .used)) (drop (w * s .used) m) z))
 
     pub next-rows : AllSmall rows → rowsOf L next ≡ rows
     next-rows small = rw append-assoc (rows-back L rows _ small)

@@ -137,7 +137,7 @@ module _ (L : Layout) where
     steps-given (find r t) b z e = steps-read (find r t) _ refl refl (λ p q. refl)
     steps-given (list-from r t) b z e = steps-read (list-from r t) _ refl refl (λ p q. refl)
 
-  numbers : (room : ℕ) (rows : List Row) (c : Call) → numbered (stockRefusals room rows c) ≡ true
+  pub numbers : (room : ℕ) (rows : List Row) (c : Call) → numbered (stockRefusals room rows c) ≡ true
   numbers room rows (put-in r t n) = refl
   numbers room rows (take-out r t n) = refl
   numbers room rows (find r t) = refl

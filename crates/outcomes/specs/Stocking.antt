@@ -37,14 +37,33 @@ denominatorOf (take-out p q n) = q
 denominatorOf (find p q) = q
 denominatorOf (list-from p q) = q
 
--- after 2, 16 and 1, which every call has: 15, 12, 14, 13, 11, each call those that can apply
+-- 15: a quantity of nought
+abbrev pub noQuantity : ℕ → Refusal
+noQuantity n = (15, eqb n 0)
+
+-- 12: no such ratio, where nothing is held of it
+abbrev pub noSuchRatio : ℕ → Refusal
+noSuchRatio held = (12, eqb held 0)
+
+-- 14: taking more than there is
+abbrev pub tooFew : ℕ → ℕ → Refusal
+tooFew held n = (14, ltb held n)
+
+-- 13: a sum above 4294967295
+abbrev pub largeSum : ℕ → ℕ → Refusal
+largeSum held n = (13, ltb limit (held + n))
+
+-- 11: a new ratio with all rows used
+abbrev pub tableFull : ℕ → ℕ → ℕ → Refusal
+tableFull held used room = (11, eqb held 0 && eqb used room)
+
+-- after 2, 16 and 1, which every call has: each call those that can apply
 abbrev pub stockRefusals : ℕ → List Row → Call → List Refusal
 stockRefusals room rows (put-in p q n) =
-    (15, eqb n 0) ∷ (13, ltb limit (heldOf p q rows + n))
-    ∷ (11, eqb (heldOf p q rows) 0 && eqb (length rows) room) ∷ []
+    let held = heldOf p q rows in noQuantity n ∷ largeSum held n ∷ tableFull held (length rows) room ∷ []
 stockRefusals room rows (take-out p q n) =
-    (15, eqb n 0) ∷ (12, eqb (heldOf p q rows) 0) ∷ (14, ltb (heldOf p q rows) n) ∷ []
-stockRefusals room rows (find p q) = (12, eqb (heldOf p q rows) 0) ∷ []
+    let held = heldOf p q rows in noQuantity n ∷ noSuchRatio held ∷ tooFew held n ∷ []
+stockRefusals room rows (find p q) = noSuchRatio (heldOf p q rows) ∷ []
 stockRefusals room rows (list-from p q) = []
 
 -- the row at a place, after whether there is one

@@ -19,9 +19,8 @@ use Rattle.tables.specs.Rows.{rowSize, rowsIn}
 use Rattle.tables.specs.Stocks.{indexOf}
 use Rattle.tables.specs.Moves.{rowAt}
 use Rattle.tables.specs.Moved.{row-at}
-use Rattle.tables.specs.Order.{Sound, sound-facts}
+use Rattle.tables.specs.Order.{Sound, sound-facts, sound-row}
 use Rattle.tables.specs.Tables.{rowsFrom, rows-small, rows-drop, rows-next, rows-end}
-use Rattle.tables.specs.Parts.{place-row}
 use Rattle.judge.specs.declared.Judged.the-variants.{Sound as Fair, WrongTable as Wrong, Unsound}
 use Rattle.judge.specs.Judging.{judged}
 use Rattle.judge.specs.Callers.{Fine, told-wrong, told-unsound, told-sound}
@@ -105,7 +104,7 @@ module _ (used p q : ℕ) (m : List ℕ) where
           at-row : soughtAt p q i (drop i rows)
               ≡ cond (sameTerms row (p / d) (q / d)) (Here i row) (Absent i (lowestTerms p q .num) (lowestTerms p q .den))
           at-row =
-              rw (there, terms-tell p q (spells .positive) row (place-row p q rows facts there .0), tells)
+              rw (there, terms-tell p q (spells .positive) row (sound-row i rows facts there), tells)
 
           pub sought-other : false ≡ sameTerms row (p / d) (q / d) → Absent x (p / d) (q / d) ≡ sought used p q m
           sought-other t = absent (at-row ∙ rw (← t))

@@ -3,6 +3,7 @@ pub mod Layouts
 pub mod Sound
 pub mod Stocks
 pub mod Moves
+pub mod Changes
 pub mod Order
 pub mod Held
 pub mod Kept
@@ -11,3 +12,4 @@ pub mod Numbers
 pub mod Tables
 pub mod Moved
 pub mod Sizes
+pub mod Changed

@@ -6,7 +6,7 @@ use Prim.Native.Nat.{ℕ, _+_, _*_, _-_, _/_, _≤_, _<_}
 use native.Mathlib.Nat.{div-add-mod', mul-le-mul-left}
 use native.Mathlib.Omega.{arith}
 use borrow.Author.Tests.{lt-ltb, le-ltb}
-use lib.ListN.{length, take, drop, replicate, length-append, take-append-drop}
+use lib.ListN.{length, take, drop, replicate, length-append, length-replicate, take-append-drop}
 use lib.Seq.{take-at, drop-at, drop-drop}
 use Rattle.bits.specs.Texts.{Bytes, inFront, pasted}
 use Rattle.bits.specs.Pasting.{pasted-behind, front-there}
@@ -31,6 +31,17 @@ module _ (L : Layout) where
   -- the used rows in two parts
   pub count : (used : ℕ) (m : List ℕ) (a c : List Row) → rowsIn w used m ≡ a ++ c → used ≡ length a + length c
   count used m a c parts = sym (length-rows w used m) ∙ ap length parts ∙ length-append a c
+
+  -- what stands behind other rows put in their place: zeros where rows went, and then what stood there
+  pub table-behind : (used : ℕ) (m : List ℕ) (after : List Row) → let k = used - length after in
+      drop (w * length after) (tableAfter L (rowsIn w used m) after m)
+      ≡ replicate (w * k) 0 ++ drop (w * (length after + k)) m
+  table-behind used m after =
+      let k = used - length after in
+      let all : length (rowsIn w used m) - length after ≡ k = rw length-rows in
+      let size : length (tableBytes L after ++ replicate (w * k) 0) ≡ w * (length after + k) =
+      rw (length-append, length-table, length-replicate) (omega arith) in
+      rw (all, append-assoc, drop-at (tableBytes L after) _ (w * length after) (length-table L after), size)
 
   module _ (used : ℕ) (m : List ℕ) (room : used ≤ roomOf L m) (small : Bytes m) (fit : fitting L used m ≡ true) where
     abbrev rows : List Row
