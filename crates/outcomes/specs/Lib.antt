@@ -11,6 +11,7 @@ pub mod Typing
 pub mod Listing
 pub mod AsPrinted
 pub mod ListingAsPrinted
+pub mod StockingAsRun
 pub mod Laws
 pub mod Buffers
 pub mod TextKeys

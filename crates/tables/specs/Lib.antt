@@ -4,6 +4,7 @@ pub mod Sound
 pub mod Stocks
 pub mod Moves
 pub mod Changes
+pub mod AsRun
 pub mod Order
 pub mod Held
 pub mod Kept
