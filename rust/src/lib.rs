@@ -16,9 +16,10 @@ pub const COLUMN_BYTES: usize = 12;
 /// The most rows that a stock table has room for.
 pub const ROWS_MOST: usize = 2048;
 
-/// Why a call refused. The numbers are the library's.
+/// Why a call refused. The numbers are the library's; there will be more.
 #[allow(missing_docs)]
 #[derive(Clone, Copy, Debug, PartialEq, Eq)]
+#[non_exhaustive]
 #[repr(u32)]
 pub enum Refusal {
     ZeroDenominator = 1,

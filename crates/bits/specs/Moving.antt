@@ -6,8 +6,8 @@ use native.Mathlib.Numerals.{add-one}
 use native.Mathlib.Omega.{arith}
 use lib.ListN.{length, getD, take, drop, set, length-take, length-drop, length-set, List·getD-append}
 use lib.Seq.{length-take-le, take-suc, drop-cons, getD-take, getD-drop}
-use Rattle.bits.specs.Texts.{inFront, pasted}
-use Rattle.bits.specs.Pasting.{pasted-none, pasted-length, pasted-rest, pasted-more, pasted-before, pasted-one}
+use Rattle.bits.specs.Texts.{pasted}
+use Rattle.bits.specs.Pasting.{pasted-none, pasted-rest, pasted-more, pasted-before, pasted-one}
 
 module _ (w at last : ℕ) (m : List ℕ) where
   -- l is memory in which the bytes from i to last stand w places up

@@ -1,19 +1,19 @@
 -- What is promised of the stock table holds. Each field names its theorem.
-use mathlib.Core.Path.{_≡_, refl, sym}
+use mathlib.Core.Path.{_≡_}
 use mathlib.Core.Bool.{false}
 use mathlib.Core.List.{List, [], _∷_}
 use Prim.Native.Nat.{ℕ, _*_, _≤_}
 use native.Mathlib.Omega.{arith}
 use Rattle.bits.specs.Texts.{Bytes}
 use Rattle.keys.specs.Size.{limit}
-use Rattle.tables.specs.Rows.{Layout, rowSize, roomOf, rowsIn}
+use Rattle.tables.specs.Rows.{Layout, rowSize, rowsIn}
 use Rattle.tables.specs.Layouts.{stockRows}
 use Rattle.tables.specs.Tables.{plain-fits}
 use Rattle.tables.specs.Changed.{one-row}
 use Rattle.outcomes.specs.Laws.{clear-number}
 use Rattle.outcomes.specs.Stocking.{Call, put-in, take-out, find, list-from, wrongTable, unsoundTable}
 use Rattle.outcomes.specs.Stocking.{stockValues, stockMemory, stockCall}
-use Rattle.histories.specs.Histories.{emptyIn, State, after, AllNumbers}
+use Rattle.histories.specs.Histories.{emptyIn, after, AllNumbers}
 use Rattle.histories.specs.Holding.{holds-empty}
 use Rattle.histories.specs.Balance.{balance, row-balance, sound-after, unused-after, zeros-after}
 use Rattle.histories.specs.Alike.{answers-same}

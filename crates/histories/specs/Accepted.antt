@@ -1,22 +1,22 @@
 -- What a call that is accepted gives and leaves, row by row.
-use mathlib.Core.Path.{_≡_, refl, sym, _∙_, ap}
+use mathlib.Core.Path.{_≡_, refl, sym, ap}
 use mathlib.Core.Bool.{false}
 use mathlib.Core.List.{List, [], _∷_, _++_}
-use Prim.Native.Nat.{ℕ, _+_, _*_, _-_, _≤_, _<_}
+use Prim.Native.Nat.{ℕ, _+_, _*_, _-_, _≤_}
 use native.Mathlib.Omega.{arith}
 use borrow.Author.Tests.{ltb-false, eqb-false}
-use lib.ListN.{length, getD, drop, replicate, length-append}
+use lib.ListN.{length, getD, drop, replicate}
 use Rattle.bits.specs.Texts.{Bytes}
 use Rattle.keys.specs.Size.{limit}
 use Rattle.tables.specs.declared.Row.{Row}
-use Rattle.tables.specs.Rows.{Layout, rowSize, roomOf, rowsIn, tableAfter}
+use Rattle.tables.specs.Rows.{Layout, rowSize, roomOf, rowsIn}
 use Rattle.tables.specs.Stocks.{indexOf, heldOf, stocked, drawn}
 use Rattle.tables.specs.Tables.{length-rows, rows-small}
 use Rattle.tables.specs.Kept.{length-drawn}
 use Rattle.tables.specs.Moved.{table-behind}
 use Rattle.tables.specs.Changes.{AllBelow, PutIn, TakenOut, RowOf, FirstFrom}
 use Rattle.tables.specs.Changed.{put-changes, put-length, take-changes, find-gives, first-from, none-from}
-use Rattle.outcomes.specs.Outcomes.{Outcome, gives}
+use Rattle.outcomes.specs.Outcomes.{gives}
 use Rattle.outcomes.specs.Refusals.{zeroDenominator}
 use Rattle.outcomes.specs.Laws.{Clear, gives-clear}
 use Rattle.outcomes.specs.Stocking.{Call, put-in, take-out, find, list-from, denominatorOf, wrongTable, unsoundTable}

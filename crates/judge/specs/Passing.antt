@@ -12,7 +12,6 @@ use lib.ListN.{drop}
 use Rattle.blocks.specs.declared.Block.{Block}
 use Rattle.outcomes.specs.BlockOrder.{blockBelow}
 use Rattle.outcomes.specs.Stocking.{wrongTable}
-use Rattle.tables.specs.declared.Row.{Row}
 use Rattle.tables.specs.Layouts.{stockRows}
 use Rattle.tables.specs.Rows.{roomOf, rowOf, rowsIn}
 use Rattle.tables.specs.Sound.{sound}

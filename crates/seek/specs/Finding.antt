@@ -2,11 +2,10 @@
 use mathlib.Core.Path.{_≡_, refl, sym, _∙_, ap}
 use mathlib.Core.Bool.{Bool, true, false, _&&_}
 use mathlib.Core.List.{List, [], _∷_}
-use Prim.Native.Nat.{ℕ, _*_, _/_, _≤_}
+use Prim.Native.Nat.{ℕ, _*_, _≤_}
 use native.Mathlib.Nat.{div-one}
 use borrow.Author.Tests.{eqb-true, eqb-false, eq-eqb}
 use lib.Dec.{eqb}
-use Rattle.blocks.specs.declared.Block.{Block}
 use Rattle.blocks.specs.Blocks.{blockOf}
 use Rattle.families.specs.Published.{words1983}
 use Rattle.fractions.specs.Fractions.{Ratio, _over_, gcd, lowestTerms}
@@ -17,9 +16,8 @@ use Rattle.keys.specs.Order.{key-equal}
 use Rattle.keys.specs.Size.{limit}
 use Rattle.tables.specs.declared.Row.{Row}
 use Rattle.tables.specs.Sound.{isRow}
-use Rattle.tables.specs.Stocks.{isBelow, isOf, passed, indexOf}
+use Rattle.tables.specs.Stocks.{isOf, passed, indexOf}
 use Rattle.tables.specs.Order.{Sound, row-parts, row-positive}
-use Rattle.tables.specs.Numbers.{Small}
 use Rattle.tables.specs.Tables.{AllSmall}
 use Rattle.outcomes.specs.BlockOrder.{block-below}
 use Rattle.judge.specs.Judging.{rowBefore}

@@ -1,10 +1,10 @@
 -- A row inserted is the rows behind it raised and then the row put; a row removed is those lowered and then zeros put.
-use mathlib.Core.Path.{_≡_, refl, sym, _∙_, ap}
-use mathlib.Core.List.{List, [], _++_, append-nil}
+use mathlib.Core.Path.{_≡_, refl, _∙_, ap}
+use mathlib.Core.List.{List}
 use Prim.Native.Nat.{ℕ, _+_, _*_, _-_, _/_, _≤_, _<_}
 use native.Mathlib.Omega.{arith}
 use borrow.Author.Tests.{lt-ltb, le-ltb}
-use lib.ListN.{length, take, drop, replicate, length-take, length-drop, length-append}
+use lib.ListN.{length, take, drop, replicate, length-take, length-drop}
 use lib.Seq.{length-take-le}
 use Rattle.bits.specs.Texts.{pasted}
 use Rattle.bits.specs.Pasting.{pasted-more, pasted-before, pasted-length}

@@ -2,7 +2,7 @@
 use mathlib.Core.Path.{_≡_, refl, sym, _∙_, ap}
 use mathlib.Core.Bool.{Bool, true, false}
 use mathlib.Core.List.{List, [], _∷_, _++_}
-use Prim.Native.Nat.{ℕ, zero, suc, _+_, _*_, _-_, _≤_, _<_}
+use Prim.Native.Nat.{ℕ, suc, _+_, _*_, _-_, _≤_}
 use native.Mathlib.Omega.{arith}
 use borrow.Author.Tests.{ltb-true, ltb-false, eq-eqb}
 use lib.Dec.{ltb}
@@ -10,7 +10,7 @@ use lib.ListN.{length, drop, length-append}
 use Rattle.tables.specs.declared.Row.{Row}
 use Rattle.tables.specs.Order.{Stands, below, equal, above, stands, Above, above-more, Sound, row-some, above-part, cross-equal}
 use Rattle.tables.specs.Stocks.{isBelow, passed, indexOf, heldOf, stocked, drawn}
-use Rattle.tables.specs.Parts.{Here, Absent, Parted, here, absent, parted}
+use Rattle.tables.specs.Parts.{Here, Parted, here, absent, parted}
 use Rattle.tables.specs.Changes.{Of, NoneOf, AllBelow, RowAt, PutIn, added, made, TakenOut, lowered, gone, RowOf, FirstFrom}
 
 -- rows above p/q aren't of it

@@ -1,5 +1,4 @@
 -- Each way is one of the tests.
-use native.Mathlib.Omega.{arith}
 use borrow.Author.Tests.{lt-ltb, le-ltb}
 use Rattle.judge.proofs.is_below.Statement.{statement}
 use Rattle.judge.proofs.is_below.Tie as tie

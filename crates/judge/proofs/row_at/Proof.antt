@@ -1,6 +1,5 @@
 -- Where memory has the row it is read, and else it is of zeros.
 use mathlib.Core.Path.{_∙_, sym}
-use native.Mathlib.Omega.{arith}
 use borrow.Author.Needs.{needs}
 use borrow.Author.Tests.{le-ltb}
 use Rattle.tables.specs.Layouts.{stockRows}

@@ -1,5 +1,4 @@
 -- The row is put where memory has it.
-use mathlib.Core.Path.{_∙_}
 use borrow.Author.Needs.{needs}
 use borrow.Author.Tests.{lt-ltb, le-ltb}
 use Rattle.tables.specs.Moves.{putAt}

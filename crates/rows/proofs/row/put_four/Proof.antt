@@ -1,3 +1,4 @@
+-- Four stores are the bytes of the number.
 use native.Mathlib.Omega.{arith}
 use lib.ListN.{length-set}
 use mathlib.Core.Path.{sym, ap, _∙_}
@@ -9,33 +10,6 @@ use borrow.Author.Needs.{needs}
 use Rattle.rows.proofs.row.put_four.Statement.{statement}
 use Rattle.rows.proofs.row.put_four.Tie as tie
 
-cast-m : tie.Need-cast-m
-cast-m c = search needs
-
-slice-write-m : tie.Need-slice-write-m
-slice-write-m c = search needs
-
-cast-m-2 : tie.Need-cast-m-2
-cast-m-2 c = search needs
-
-slice-write-m-2 : tie.Need-slice-write-m-2
-slice-write-m-2 c = simp length-set (omega arith)
-
-cast-m-3 : tie.Need-cast-m-3
-cast-m-3 c = search needs
-
-slice-write-m-3 : tie.Need-slice-write-m-3
-slice-write-m-3 c = simp length-set (omega arith)
-
-cast-m-4 : tie.Need-cast-m-4
-cast-m-4 c = search needs
-
-slice-write-m-4 : tie.Need-slice-write-m-4
-slice-write-m-4 c = search needs
-
-same-length : tie.Need-same-length
-same-length c = search needs
-
 returns : tie.Need-returns
 returns c =
     let m = c .args .m .now in
@@ -46,13 +20,13 @@ pub put-four-spec : {M : Type 1} → statement M
 put-four-spec =
     tie.close
     (tie.spec
-    cast-m
-    slice-write-m
-    cast-m-2
-    slice-write-m-2
-    cast-m-3
-    slice-write-m-3
-    cast-m-4
-    slice-write-m-4
-    same-length
+    (λ c. search needs)
+    (λ c. search needs)
+    (λ c. search needs)
+    (λ c. simp length-set (omega arith))
+    (λ c. search needs)
+    (λ c. simp length-set (omega arith))
+    (λ c. search needs)
+    (λ c. search needs)
+    (λ c. search needs)
     returns)
