@@ -1,5 +1,5 @@
-// The library as C sees it: each call under a plain name. It hands its arguments on and gives the answer as
-// a struct that begins with the refusal's number; the outcome is that of the call behind it. Nothing is decided here.
+// The library as C sees it: each call under a plain name. It hands its arguments on and gives the answer as a struct
+// that begins with the refusal's number; the outcome is that of the call behind it. Nothing is decided here.
 ghost use mathlib.Core.List.{[]};
 ghost use mathlib.Core.Path.{_≡_};
 ghost use Rattle.outcomes.specs.Outcomes.{leaves};
