@@ -1,13 +1,3 @@
 pub mod Strings
 pub mod Binary
 pub mod Texts
-pub mod AsPrinted
-pub mod Order
-pub mod Trim
-pub mod Numbers
-pub mod Pieces
-pub mod Sums
-pub mod Columns
-pub mod Pasting
-pub mod Moving
-pub mod Memory

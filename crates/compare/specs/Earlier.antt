@@ -7,8 +7,8 @@ use Rattle.bits.specs.Strings.{Bits}
 use Rattle.bits.specs.Texts.{bits_of_text}
 use Rattle.outcomes.specs.Outcomes.{Outcome, Answer, leaves, gives}
 use Rattle.outcomes.specs.Comparing.{before, same, after, standing, compare_text}
-use Rattle.outcomes.specs.Laws.{given_or_refused}
-use Rattle.outcomes.specs.Standings.{Says, says_before, says_same, says_after, says-standing}
+use Rattle.outcomes.proofs.Laws.{given_or_refused}
+use Rattle.outcomes.proofs.Standings.{Says, says_before, says_same, says_after, says-standing}
 use Rattle.outcomes.specs.Refusals.{key_refusals}
 
 -- r is handed back for j and k. Where comparing refuses, r has the address of j and no character.

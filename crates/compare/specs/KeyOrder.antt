@@ -5,13 +5,13 @@ use Rattle.std.proofs.Common.{sym, ◌∙◌, ap, inl, inr}
 use mathlib.Core.List.{List, [], ◌∷◌, ◌++◌, cons≢nil, tail-eq_of_cons-eq}
 use Rattle.bits.specs.Strings.{Bits}
 use Rattle.bits.specs.Texts.{text_of, bits_of_text}
-use Rattle.bits.specs.Trim.{Tidy}
+use Rattle.bits.proofs.Trim.{Tidy}
 use Rattle.keys.specs.Keys.{Canonical}
-use Rattle.keys.specs.Back.{not-canonical}
+use Rattle.keys.proofs.Back.{not-canonical}
 use Rattle.outcomes.specs.Comparing.{before, after, standing}
 use Rattle.outcomes.specs.Laws.{Clear}
 use Rattle.outcomes.specs.Refusals.{key_refusals}
-use Rattle.outcomes.specs.TextKeys.{clear-canonical}
+use Rattle.outcomes.proofs.TextKeys.{clear-canonical}
 use Rattle.compare.specs.Bytes.{byte_standing}
 
 -- a string that ends in 1 comes after the empty one

@@ -5,7 +5,7 @@ use Rattle.std.proofs.lemmas.List.Edits.{sets}
 use Rattle.std.proofs.lemmas.List.{take-append-le}
 use Rattle.std.proofs.Math.Seq.{drop-append-add}
 use Rattle.bits.specs.Texts.{in_front}
-use Rattle.bits.specs.Memory.{lent_part, lent_back, stored-front}
+use Rattle.bits.proofs.Memory.{lent_part, lent_back, stored-front}
 
 -- n characters from a place on, as they are read one after the other
 abbrev chars_at : List ℕ → ℕ → ℕ → List ℕ

@@ -5,9 +5,9 @@ use Rattle.std.proofs.lemmas.List.{length-map}
 use Rattle.std.proofs.Math.ListN.{get_or-map}
 use Rattle.bits.specs.Strings.{Bits, closed}
 use Rattle.bits.specs.Texts.{bits_of_text}
-use Rattle.bits.specs.Trim.{closed_short, closed-zero}
+use Rattle.bits.proofs.Trim.{closed_short, closed-zero}
 use Rattle.keys.specs.Keys.{cut_to}
-use Rattle.keys.specs.Back.{closed-canonical}
+use Rattle.keys.proofs.Back.{closed-canonical}
 
 -- m characters of k are left, and they are cut to what the first n are cut to
 pub record Left (k : List ℕ) (n m : ℕ) : Type 0 where

@@ -4,14 +4,14 @@ use Rattle.std.proofs.Common.{sym, ◌∙◌, ap, arith, lt-ltb, le-ltb, length-
 use Rattle.std.proofs.lemmas.List.{length-map}
 use Rattle.bits.specs.Strings.{Bits}
 use Rattle.bits.specs.Texts.{char_of, text_of, bits_of_text, in_front}
-use Rattle.bits.specs.Trim.{closed-length, closed-take}
-use Rattle.bits.specs.Pieces.{take-map}
+use Rattle.bits.proofs.Trim.{closed-length, closed-take}
+use Rattle.bits.proofs.Pieces.{take-map}
 use Rattle.keys.specs.Keys.{cut_to}
 use Rattle.outcomes.specs.Outcomes.{Refusal, gives, refuses, called}
 use Rattle.outcomes.specs.Refusals.{short_buffer, outside}
-use Rattle.outcomes.specs.TextKeys.{clear-canonical}
+use Rattle.outcomes.proofs.TextKeys.{clear-canonical}
 use Rattle.outcomes.specs.Cutting.{cut_text}
-use Rattle.outcomes.specs.Cuts.{inside, beyond}
+use Rattle.outcomes.proofs.Cuts.{inside, beyond}
 use Rattle.scan.specs.Judging.{judgement, number_of_fault}
 use Rattle.scan.specs.Callers.{told_faulty, told-key, judged-clear}
 use Rattle.scan.specs.declared.Judged.TheVariants.{Key, Faulty}

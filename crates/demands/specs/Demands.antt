@@ -5,7 +5,7 @@ use Rattle.bits.specs.Strings.{Bits, ◌≺◌}
 use Rattle.bits.specs.Binary.{bits_of_bytes}
 use Rattle.bits.specs.Texts.{text_of, bits_of_text, in_front}
 use Rattle.families.specs.Families.{Family}
-use Rattle.families.specs.Published.{words1983}
+use Rattle.families.proofs.Published.{words1983}
 use Rattle.fractions.specs.Fractions.{◌over◌, lowest_terms, form_of}
 use Rattle.keys.specs.Keys.{key_of, without_zero, count_of, Canonical, value_of_key, cut_to, column_of}
 use Rattle.keys.specs.Size.{limit}

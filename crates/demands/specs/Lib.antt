@@ -1,12 +1,5 @@
 pub mod Ordered
-pub mod Columns
 pub mod Again
 pub mod Demands
-pub mod Met
 pub mod Lister
-pub mod ListerMet
 pub mod Stock
-pub mod StockMet
-pub mod Unique
-pub mod UniqueInC
-pub mod Table

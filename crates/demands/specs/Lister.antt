@@ -2,7 +2,7 @@
 use Rattle.std.specs.Prelude.{◌≡◌, true, false, ℕ, ◌≤◌, get_or}
 use mathlib.Core.List.{List, [], ◌∷◌, ◌++◌, foldl}
 use Rattle.bits.specs.Texts.{text_of}
-use Rattle.families.specs.Published.{words1983}
+use Rattle.families.proofs.Published.{words1983}
 use Rattle.fractions.specs.Fractions.{◌over◌, lowest_terms, form_of}
 use Rattle.keys.specs.Keys.{key_of, count_of}
 use Rattle.numerals.specs.Numerals.{all_digits, value_of, decimal_of}

@@ -14,7 +14,7 @@ use Rattle.seek.specs.declared.Fault.{Fault}
 use Rattle.seek.specs.declared.Sought.TheVariants.{Here, Absent, Faulty}
 use Rattle.seek.specs.Seeking.{sought}
 use Rattle.seek.specs.Callers.{number_of_fault, told_faulty, told-here, told-absent, told-given}
-use Rattle.tables.specs.Moved.{count, memory-put, memory_removed}
+use Rattle.tables.proofs.Moved.{count, memory-put, memory_removed}
 
 module _ (used p q n : ℕ) (m : List ℕ) where
   abbrev rows : List Row

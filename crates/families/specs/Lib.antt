@@ -1,9 +1,2 @@
 pub mod Families
 pub mod Words
-pub mod AsPrinted
-pub mod Digits
-pub mod Rising
-pub mod Complete
-pub mod Measured
-pub mod Published
-pub mod Meeting

@@ -1,6 +1,3 @@
 pub mod Fractions
-pub mod AsPrinted
-pub mod Lists
-pub mod Euclid
-pub mod TwoStates
 pub mod Convergents
+pub mod TwoStates

@@ -2,7 +2,7 @@
 use Rattle.std.specs.Prelude.{Bool, false, cond, not, List, ℕ, ◌+◌, eqb}
 use Rattle.blocks.specs.declared.Block.{Block}
 use Rattle.blocks.specs.Blocks.{block_of}
-use Rattle.families.specs.Published.{words1983}
+use Rattle.families.proofs.Published.{words1983}
 use Rattle.keys.specs.Keys.{key_of}
 use Rattle.tables.specs.declared.Row.{Row}
 use Rattle.tables.specs.Layouts.{stock_rows}

@@ -12,7 +12,7 @@ use Rattle.tables.specs.Layouts.{stock_rows}
 use Rattle.tables.specs.Rows.{room_of, row_of, rows_in}
 use Rattle.tables.specs.Sound.{sound}
 use Rattle.tables.specs.Stocks.{passed}
-use Rattle.tables.specs.Tables.{rows_from, rows-next, rows-end, plain-fits}
+use Rattle.tables.proofs.Tables.{rows_from, rows-next, rows-end, plain-fits}
 use Rattle.judge.specs.declared.Judged.TheVariants.{Sound, WrongTable, Unsound}
 use Rattle.judge.specs.Judging.{block_of_row, row_before, passed_at, judged_rows, judged}
 

@@ -1,7 +1,7 @@
 -- A row read as three numbers of four bytes, each in a part that is lent from its place on.
 use Rattle.std.specs.Prelude.{◌≡◌, List, [], ◌∷◌, ℕ, ◌+◌, ◌*◌, ◌-◌, ◌≤◌, length, get_or, take, drop}
 use Rattle.std.proofs.Common.{arith, drop-drop}
-use Rattle.bits.specs.Memory.{lent_part}
+use Rattle.bits.proofs.Memory.{lent_part}
 use Rattle.tables.specs.declared.Row.{Row}
 use Rattle.tables.specs.Rows.{low_number, row_of}
 

@@ -7,18 +7,19 @@ use Prim.Native.Nat.{ℕ, zero, suc, ◌+◌, ◌*◌, ◌-◌, ◌≤◌, ◌<�
 use Rattle.std.proofs.Math.Numerals.{add-one}
 use Rattle.bits.specs.Texts.{Bytes}
 use Rattle.blocks.specs.declared.Block.{Block}
-use Rattle.families.specs.Published.{words1983}
+use Rattle.families.proofs.Published.{words1983}
 use Rattle.fractions.specs.Fractions.{gcd}
-use Rattle.outcomes.specs.BlockOrder.{block_below, block_below_lem}
+use Rattle.outcomes.specs.BlockOrder.{block_below}
+use Rattle.outcomes.proofs.BlockOrder.{block_below_lem}
 use Rattle.spell.specs.declared.Spelled.TheVariants.{Key, ZeroDenominator}
 use Rattle.spell.specs.Spelling.{spelling}
 use Rattle.spell.specs.Callers.{told-zero, key-spells}
 use Rattle.tables.specs.declared.Row.{Row}
 use Rattle.tables.specs.Rows.{row_of, rows_in}
 use Rattle.tables.specs.Sound.{is_row, row_below, sound_behind, sound}
-use Rattle.tables.specs.Order.{row-positive}
-use Rattle.tables.specs.Numbers.{row-small, bytes_dropped}
-use Rattle.tables.specs.Tables.{rows_from, rows-next, rows-end}
+use Rattle.tables.proofs.Order.{row-positive}
+use Rattle.tables.proofs.Numbers.{row-small, bytes_dropped}
+use Rattle.tables.proofs.Tables.{rows_from, rows-next, rows-end}
 use Rattle.judge.specs.Judging.{block_of_row, falls_at}
 
 -- what spelling a row's ratio tells of the row

@@ -1,6 +1,6 @@
 -- A struct's number and values tell the struct.
 use Rattle.std.specs.Prelude.{◌≡◌, refl, List, ℕ, eqb, get_or}
-use Rattle.bits.specs.Pieces.{bit_digit}
+use Rattle.bits.proofs.Pieces.{bit_digit}
 use Rattle.outcomes.specs.Outcomes.{Outcome, Answer}
 use Rattle.lcf.specs.declared.Written.{Written}
 use Rattle.lcf.specs.declared.Ratio.{Ratio}

@@ -8,7 +8,7 @@ use Rattle.fields.specs.declared.Fed.TheVariants.{Within, Ended}
 use Rattle.fields.specs.declared.Field.{Field}
 use Rattle.fields.specs.declared.Field.TheVariants.{Empty}
 use Rattle.lines.specs.Machines.{behind, untouched, stretched}
-use Rattle.lines.specs.Stretches.{
+use Rattle.lines.proofs.Stretches.{
   behind_none,
   behind-behind,
   stretch-full,

@@ -8,7 +8,7 @@ use Rattle.fields.specs.declared.Field.TheVariants.{Empty}
 use Rattle.fields.specs.declared.Typed.TheVariants.{Ratio, Malformed, TooLarge}
 use Rattle.lines.specs.Lines.{answered}
 use Rattle.lines.specs.Machines.{run}
-use Rattle.lines.specs.Stretches.{run-answered}
+use Rattle.lines.proofs.Stretches.{run-answered}
 use Rattle.outcomes.specs.Outcomes.{first_of}
 use Rattle.outcomes.specs.Refusals.{zero_denominator}
 use Rattle.outcomes.specs.Typing.{numerator_of, denominator_of, is_shaped, large_numeral}

@@ -3,7 +3,7 @@ use Rattle.std.specs.Prelude.{◌≡◌, List, [], ◌∷◌, ◌++◌, ℕ, ◌
 use Rattle.std.proofs.Common.{sym, ◌∙◌, add-one, length-append, drop-drop}
 use Rattle.std.proofs.lemmas.List.{set_split}
 use Rattle.bits.specs.Texts.{in_front}
-use Rattle.bits.specs.Memory.{front-more, lent_back}
+use Rattle.bits.proofs.Memory.{front-more, lent_back}
 
 -- t is put out at the front of m, and its length given
 pub record Puts (t m : List ℕ) (r : ℕ) (e : List ℕ) : Type 0 where

@@ -8,7 +8,7 @@ use Rattle.blocks.specs.Blocks.{bits_of_block}
 use Rattle.blocks.specs.declared.Block.{Block}
 use Rattle.fractions.specs.Fractions.{◌over◌, lowest_terms}
 use Rattle.numerals.specs.Numerals.{decimal_of}
-use Rattle.numerals.specs.Laws.{decimal_size}
+use Rattle.numerals.proofs.Laws.{decimal_size}
 use Rattle.outcomes.specs.Buffers.{Put}
 use Rattle.outcomes.specs.Listing.{entry_of, accepted_line, refused_line}
 use Rattle.put.specs.KeyText.{key-length}

@@ -3,13 +3,14 @@ use Rattle.std.specs.Prelude.{ℕ, ◌≤◌, length}
 use Rattle.std.proofs.Common.{div-le_self, arith, length-append}
 use Rattle.std.proofs.lemmas.List.{length-map}
 use Rattle.bits.specs.Strings.{Bits}
-use Rattle.families.specs.Published.{words1983}
+use Rattle.families.proofs.Published.{words1983}
 use Rattle.fractions.specs.Fractions.{Ratio, gcd, lowest_terms, form_of}
 use Rattle.keys.specs.Keys.{key_of, count_of}
-use Rattle.keys.specs.Size.{limit, key_size, count_size}
+use Rattle.keys.specs.Size.{limit}
+use Rattle.keys.proofs.Size.{key_size, count_size}
 use Rattle.lines.specs.Lines.{printed}
 use Rattle.numerals.specs.Numerals.{decimal_of}
-use Rattle.numerals.specs.Laws.{decimal_size}
+use Rattle.numerals.proofs.Laws.{decimal_size}
 use Rattle.outcomes.specs.Listing.{entry_of, accepted_line, refused_line}
 
 small_size : (n : ℕ) → n ≤ limit → length (decimal_of n) ≤ 10

@@ -1,7 +1,7 @@
 -- What waits at the front of an output buffer of n bytes: it is within the buffer, or leaves room for an answer.
 use Rattle.std.specs.Prelude.{◌≡◌, List, ℕ, ◌+◌, ◌-◌, ◌≤◌, ◌<◌, length, take, drop}
 use Rattle.std.proofs.Common.{arith, length-drop}
-use Rattle.bits.specs.Memory.{lent_part}
+use Rattle.bits.proofs.Memory.{lent_part}
 use Rattle.fields.specs.declared.Field.{Field}
 use Rattle.list.specs.declared.Listed.{Listed}
 use Rattle.list.specs.Listing.{Lists}

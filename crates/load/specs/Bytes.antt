@@ -4,11 +4,11 @@ use Rattle.std.proofs.Common.{sym, ap, ◌∙◌, arith, eq-eqb, ne_eqb}
 use Rattle.std.proofs.Math.Seq.{drop-nil, drop-append-add}
 use Rattle.bits.specs.Binary.{number_of, first_bits, digits_in, bits_of_bytes}
 use Rattle.bits.specs.Texts.{Bytes}
-use Rattle.bits.specs.Pieces.{length-digits, number_of-digits}
-use Rattle.bits.specs.Columns.{byte-bits, byte-rest}
-use Rattle.bits.specs.Sums.{number-first}
-use Rattle.bits.specs.Memory.{lent_part}
-use Rattle.blocks.specs.Laws.{block_made}
+use Rattle.bits.proofs.Pieces.{length-digits, number_of-digits}
+use Rattle.bits.proofs.Columns.{byte-bits, byte-rest}
+use Rattle.bits.proofs.Sums.{number-first}
+use Rattle.bits.proofs.Memory.{lent_part}
+use Rattle.blocks.proofs.Laws.{block_made}
 use Rattle.load.specs.declared.Loaded.TheVariants.{Bits, WrongColumn}
 use Rattle.load.specs.Loading.{loaded}
 

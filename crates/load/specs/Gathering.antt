@@ -4,14 +4,14 @@ use Rattle.std.proofs.Common.{sym, ap, ◌∙◌, add-one, arith, pow_mono, take
 use Rattle.std.proofs.lemmas.List.{map-append, length-map}
 use mir.Val.{bool_byte}
 use Rattle.bits.specs.Strings.{Bits}
-use Rattle.bits.specs.Pieces.{drop-map}
+use Rattle.bits.proofs.Pieces.{drop-map}
 use Rattle.bits.specs.Binary.{digit_of, number_of, first_bits}
 use Rattle.bits.specs.Texts.{bits_of_text}
-use Rattle.bits.specs.Memory.{lent_part}
-use Rattle.bits.specs.Numbers.{number_from_lem, number-append, number-lt}
-use Rattle.bits.specs.Sums.{number_past, number-raised, first_shorter}
+use Rattle.bits.proofs.Memory.{lent_part}
+use Rattle.bits.proofs.Numbers.{number_from_lem, number-append, number-lt}
+use Rattle.bits.proofs.Sums.{number_past, number-raised, first_shorter}
 use Rattle.blocks.specs.Blocks.{block_of}
-use Rattle.blocks.specs.Laws.{block_made}
+use Rattle.blocks.proofs.Laws.{block_made}
 
 -- the first 64 bits of a text, extended by zeros, as a number
 abbrev pub top_word : List ℕ → ℕ

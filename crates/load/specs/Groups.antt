@@ -6,10 +6,11 @@ use Rattle.std.specs.Int.Bits.{bit_and}
 use Rattle.std.proofs.lemmas.Nat.{and_le_l}
 use Rattle.std.proofs.lemmas.List.{length-map}
 use Rattle.bits.specs.Binary.{number_of, digits_in}
-use Rattle.bits.specs.Numbers.{number-lt}
-use Rattle.bits.specs.Pieces.{digits-of-number}
+use Rattle.bits.proofs.Numbers.{number-lt}
+use Rattle.bits.proofs.Pieces.{digits-of-number}
 use Rattle.bits.specs.Texts.{char_of, text_of, bits_of_text, Bytes}
-use Rattle.blocks.specs.Bytewise.{low_bytes, length_low, ones, low_bits, and_ones, table, table-at}
+use Rattle.blocks.specs.Bytewise.{low_bytes, ones, low_bits, table}
+use Rattle.blocks.proofs.Bytewise.{length_low, and_ones, table-at}
 use Rattle.load.specs.Passing.{Plain}
 
 -- n bytes from a place on as a number, lowest byte first

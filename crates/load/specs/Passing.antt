@@ -4,10 +4,10 @@ use Rattle.std.specs.Prelude.{◌≡◌, true, ◌||◌, ◌⊎◌, List, ◌++�
 use Rattle.std.proofs.Common.{sym, ◌∙◌, ap, inl, inr, add-one, arith, ne_eqb, drop_of_length-le, length-drop, take-append-drop, take_all, drop-cons, drop-drop}
 use Rattle.std.proofs.lemmas.List.{length-map}
 use Rattle.std.proofs.Math.Seq.{drop-length}
-use Rattle.bits.specs.Pieces.{drop-map}
+use Rattle.bits.proofs.Pieces.{drop-map}
 use Rattle.bits.specs.Texts.{char_of, text_of, bits_of_text}
 use Rattle.outcomes.specs.Refusals.{first_strange}
-use Rattle.outcomes.specs.TextKeys.{text-passed, text-plain}
+use Rattle.outcomes.proofs.TextKeys.{text-passed, text-plain}
 
 -- a text of bits: each character is 0 or 1
 abbrev pub Plain : List ℕ → Type 0

@@ -6,8 +6,8 @@ use Rattle.tables.specs.Layouts.{stock_rows}
 use Rattle.tables.specs.Rows.{row_size, rows_in}
 use Rattle.tables.specs.Stocks.{held_of, index_of}
 use Rattle.tables.specs.Moves.{row_at}
-use Rattle.tables.specs.Moved.{row_at_lem}
-use Rattle.tables.specs.Tables.{rows-drop, rows-next, rows-end}
+use Rattle.tables.proofs.Moved.{row_at_lem}
+use Rattle.tables.proofs.Tables.{rows-drop, rows-next, rows-end}
 use Rattle.outcomes.specs.Outcomes.{gives, refuses}
 use Rattle.outcomes.specs.Stocking.{find, list_from, listed_at, stock_call}
 use Rattle.seek.specs.declared.Fault.{Fault}

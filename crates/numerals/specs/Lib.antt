@@ -1,3 +1,1 @@
 pub mod Numerals
-pub mod AsPrinted
-pub mod Laws

@@ -2,7 +2,7 @@
 use Rattle.std.specs.Prelude.{cond, List, [], ◌∷◌, ◌++◌, ℕ, eqb}
 use Rattle.bits.specs.Strings.{Bits}
 use Rattle.bits.specs.Texts.{text_of}
-use Rattle.families.specs.Published.{words1983}
+use Rattle.families.proofs.Published.{words1983}
 use Rattle.fractions.specs.Fractions.{Ratio, lowest_terms, form_of}
 use Rattle.keys.specs.Keys.{key_of, count_of}
 use Rattle.lines.specs.Lines.{printed, answered}

@@ -3,7 +3,7 @@
 use Rattle.std.specs.Prelude.{List, [], ◌∷◌, ℕ}
 use Rattle.bits.specs.Texts.{bits_of_text}
 use Rattle.bits.specs.Binary.{bits_of_bytes}
-use Rattle.families.specs.Published.{words1983}
+use Rattle.families.proofs.Published.{words1983}
 use Rattle.fractions.specs.Fractions.{Ratio, lowest_terms}
 use Rattle.keys.specs.Keys.{value_of_key}
 use Rattle.outcomes.specs.Outcomes.{Outcome, called}

@@ -1,7 +1,7 @@
 -- Writing the key of p/q: refuses by 1, then 2; gives the key's characters and the quotients written.
 use Rattle.std.specs.Prelude.{List, [], ◌∷◌, ℕ, length}
 use Rattle.bits.specs.Texts.{text_of, in_front}
-use Rattle.families.specs.Published.{words1983}
+use Rattle.families.proofs.Published.{words1983}
 use Rattle.fractions.specs.Fractions.{form_of}
 use Rattle.keys.specs.Keys.{key_of, count_of, column_of}
 use Rattle.outcomes.specs.Outcomes.{Outcome, called}

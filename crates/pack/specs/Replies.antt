@@ -8,17 +8,18 @@ use Rattle.std.proofs.Math.ListN.{length, length-map}
 use Rattle.bits.specs.Strings as strings
 use Rattle.bits.specs.Binary.{bytes_of, bits_of_bytes}
 use Rattle.bits.specs.Texts.{text_of, bits_of_text, in_front}
-use Rattle.bits.specs.Trim.{closed-some, closed_equal}
-use Rattle.bits.specs.Columns.{bytes-same, bits-length}
+use Rattle.bits.proofs.Trim.{closed-some, closed_equal}
+use Rattle.bits.proofs.Columns.{bytes-same, bits-length}
 use Rattle.blocks.specs.Blocks.{bits_of_block, block_of}
-use Rattle.blocks.specs.Laws.{block-length, block-whole}
+use Rattle.blocks.proofs.Laws.{block-length, block-whole}
 use Rattle.blocks.specs.declared.Block.{Block}
 use Rattle.load.specs.Loading.{loaded}
 use Rattle.load.specs.Callers.{told_wrong, told-bits}
 use Rattle.load.specs.declared.Loaded.TheVariants.{Bits, WrongColumn}
 use Rattle.outcomes.specs.Outcomes.{leaves, refuses, called}
 use Rattle.outcomes.specs.Refusals.{short_buffer}
-use Rattle.outcomes.specs.Buffers.{counted, put-called}
+use Rattle.outcomes.specs.Buffers.{counted}
+use Rattle.outcomes.proofs.Buffers.{put-called}
 use Rattle.outcomes.specs.Packing.{column_to_text, text_to_column}
 use Rattle.put.specs.Putting.{text_put, column_put}
 use Rattle.scan.specs.Judging.{judgement, number_of_fault}

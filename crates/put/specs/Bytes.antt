@@ -6,9 +6,9 @@ use Rattle.std.proofs.lemmas.List.{drop-append-le}
 use Rattle.bits.specs.Strings.{Bits}
 use Rattle.bits.specs.Binary.{number_from, number_of, first_bits, bytes_of, digits_in}
 use Rattle.bits.specs.Texts.{in_front}
-use Rattle.bits.specs.Numbers.{number_from_lem, number-append, number-lt}
-use Rattle.bits.specs.Memory.{front-more, lent_back}
-use Rattle.bits.specs.Pieces.{length-first, first-before, first-rest, length-digits, number_of-digits}
+use Rattle.bits.proofs.Numbers.{number_from_lem, number-append, number-lt}
+use Rattle.bits.proofs.Memory.{front-more, lent_back}
+use Rattle.bits.proofs.Pieces.{length-first, first-before, first-rest, length-digits, number_of-digits}
 use Rattle.blocks.specs.declared.Block.{Block}
 use Rattle.blocks.specs.Blocks.{bits_of_block}
 

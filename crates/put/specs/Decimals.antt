@@ -6,7 +6,7 @@ use Rattle.std.proofs.Math.Seq.{append_snoc}
 use Rattle.std.proofs.lemmas.List.{set_split}
 use Rattle.bits.specs.Texts.{in_front}
 use Rattle.numerals.specs.Numerals.{last_behind, decimal_of}
-use Rattle.numerals.specs.Laws.{decimal_induction}
+use Rattle.numerals.proofs.Laws.{decimal_induction}
 
 abbrev pub last_digits : ℕ → ℕ → List ℕ
 last_digits zero n = []

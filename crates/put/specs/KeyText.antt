@@ -6,12 +6,12 @@ use Rattle.std.proofs.Math.ListN.{take}
 use Rattle.bits.specs.Strings.{Bits, closed}
 use Rattle.bits.specs.Binary.{number_of, first_bits, digits_in}
 use Rattle.bits.specs.Texts.{text_of, in_front}
-use Rattle.bits.specs.Pieces.{take-first, length-digits, number_of-digits, digits-first}
-use Rattle.bits.specs.Sums.{number-raised}
-use Rattle.bits.specs.Trim.{closed-length, closed-take}
+use Rattle.bits.proofs.Pieces.{take-first, length-digits, number_of-digits, digits-first}
+use Rattle.bits.proofs.Sums.{number-raised}
+use Rattle.bits.proofs.Trim.{closed-length, closed-take}
 use Rattle.blocks.specs.declared.Block.{Block}
 use Rattle.blocks.specs.Blocks.{bits_of_block}
-use Rattle.blocks.specs.Laws.{block-length, block-front, block-rest}
+use Rattle.blocks.proofs.Laws.{block-length, block-front, block-rest}
 use Rattle.put.specs.Putting.{text_put}
 use Rattle.put.specs.Piecewise.{text-more}
 

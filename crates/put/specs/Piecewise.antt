@@ -8,9 +8,9 @@ use Rattle.std.proofs.Math.Seq.{drop-append-add}
 use Rattle.bits.specs.Strings.{Bits}
 use Rattle.bits.specs.Binary.{number_of, first_bits, digits_in}
 use Rattle.bits.specs.Texts.{char_of, text_of, in_front}
-use Rattle.bits.specs.Memory.{front-more}
-use Rattle.bits.specs.Pieces.{take-map, first-take, length-digits, number_of-digits, first-digits, digits-first}
-use Rattle.bits.specs.Sums.{first-lt, first_shorter, first_shifted}
+use Rattle.bits.proofs.Memory.{front-more}
+use Rattle.bits.proofs.Pieces.{take-map, first-take, length-digits, number_of-digits, first-digits, digits-first}
+use Rattle.bits.proofs.Sums.{first-lt, first_shorter, first_shifted}
 
 -- memory after n characters of s, from a place on, were written at that place
 abbrev pub part_put : (s : Bits) (at n : ℕ) (m : List ℕ) → List ℕ

@@ -4,7 +4,8 @@ use Rattle.std.proofs.Common.{◌∙◌, ap}
 use Rattle.std.specs.Int.Bits.{bit_and}
 use Rattle.bits.specs.Binary.{digits_in}
 use Rattle.bits.specs.Texts.{text_of}
-use Rattle.blocks.specs.Bytewise.{low_bytes, ones, low_bits, and_ones, table, table-at}
+use Rattle.blocks.specs.Bytewise.{low_bytes, ones, low_bits, table}
+use Rattle.blocks.proofs.Bytewise.{and_ones, table-at}
 
 -- the byte at every ninth place, moved such that a wanted bit is the lowest of each byte
 abbrev pub copies : ℕ → ℕ

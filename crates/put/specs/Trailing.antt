@@ -6,10 +6,10 @@ use Rattle.std.proofs.lemmas.Nat.{or_block}
 use Rattle.std.specs.Int.Count.{count_trailing_zeros, trailing_of_zero}
 use Rattle.bits.specs.Strings.{Bits, Same, behind_zero, trimmed, closed}
 use Rattle.bits.specs.Binary.{number_of, digits_in}
-use Rattle.bits.specs.Order.{same-append}
-use Rattle.bits.specs.Trim.{Tidy, same-zero, same-trimmed, trimmed-same, tidy-trimmed, trimmed-ended}
-use Rattle.bits.specs.Numbers.{number_from_lem, number-append, number-lt}
-use Rattle.bits.specs.Pieces.{length-digits, number_of-digits}
+use Rattle.bits.proofs.Order.{same-append}
+use Rattle.bits.proofs.Trim.{Tidy, same-zero, same-trimmed, trimmed-same, tidy-trimmed, trimmed-ended}
+use Rattle.bits.proofs.Numbers.{number_from_lem, number-append, number-lt}
+use Rattle.bits.proofs.Pieces.{length-digits, number_of-digits}
 use Rattle.blocks.specs.declared.Block.{Block}
 use Rattle.blocks.specs.Blocks.{bits_of_block}
 

@@ -4,7 +4,7 @@ use Rattle.std.specs.Prelude.{◌≡◌, Bool, true, false, cond, List, [], ◌�
 use Rattle.bits.specs.Strings.{Bits, turn}
 use Rattle.blocks.specs.Blocks.{bits_of_block}
 use Rattle.families.specs.Words.{word_of}
-use Rattle.families.specs.Published.{words1983}
+use Rattle.families.proofs.Published.{words1983}
 use Rattle.fractions.specs.Fractions.{Ratio, ◌over◌}
 use Rattle.fractions.specs.Convergents.{convergent, forward}
 use Rattle.keys.specs.Keys.{read, value_of_key}

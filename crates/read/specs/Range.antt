@@ -8,12 +8,13 @@ use Rattle.bits.specs.Binary.{digits_in}
 use Rattle.blocks.specs.Blocks.{bits_of_block}
 use Rattle.blocks.specs.declared.Block.{Block}
 use Rattle.families.specs.Words.{word_of}
-use Rattle.families.specs.Published.{words1983}
+use Rattle.families.proofs.Published.{words1983}
 use Rattle.fractions.specs.Fractions.{Ratio, ◌over◌, Quotients}
-use Rattle.fractions.specs.Convergents.{convergent, forward, forward_value, forward_grows}
+use Rattle.fractions.specs.Convergents.{convergent, forward}
+use Rattle.fractions.proofs.Convergents.{forward_value, forward_grows}
 use Rattle.keys.specs.Keys.{read}
-use Rattle.keys.specs.Reading.{read-spells}
-use Rattle.keys.specs.Back.{value_denominator}
+use Rattle.keys.proofs.Reading.{read-spells}
+use Rattle.keys.proofs.Back.{value_denominator}
 use Rattle.read.specs.declared.find.Found.TheVariants as found
 use Rattle.read.specs.Finding.{packed, value_in, is_over, found_from, Finds, found_in, found_of}
 use Rattle.read.specs.Next.{not_over, within, ratio-packed}

@@ -5,13 +5,13 @@ use Rattle.std.proofs.lemmas.List.{length-map}
 use Rattle.bits.specs.Strings as strings
 use Rattle.bits.specs.Binary.{bits_of_bytes}
 use Rattle.bits.specs.Texts.{bits_of_text}
-use Rattle.bits.specs.Columns.{bits-length}
+use Rattle.bits.proofs.Columns.{bits-length}
 use Rattle.blocks.specs.Blocks.{bits_of_block, block_of}
 use Rattle.blocks.specs.declared.Block.{Block}
-use Rattle.blocks.specs.Laws.{block-whole}
-use Rattle.families.specs.Published.{words1983}
+use Rattle.blocks.proofs.Laws.{block-whole}
+use Rattle.families.proofs.Published.{words1983}
 use Rattle.fractions.specs.Fractions.{Ratio}
-use Rattle.keys.specs.Back.{value_same}
+use Rattle.keys.proofs.Back.{value_same}
 use Rattle.load.specs.Loading.{loaded}
 use Rattle.load.specs.Callers.{told_wrong, told-bits}
 use Rattle.load.specs.declared.Loaded.TheVariants.{Bits, WrongColumn}

@@ -7,11 +7,12 @@ use Rattle.std.proofs.Math.Decide.{dec_lt}
 use Rattle.bits.specs.Strings.{Bits}
 use Rattle.families.specs.Families.{ended}
 use Rattle.families.specs.Words.{first_number}
-use Rattle.families.specs.Published.{words1983}
+use Rattle.families.proofs.Published.{words1983}
 use Rattle.fractions.specs.Fractions.{Ratio}
 use Rattle.fractions.specs.Convergents.{convergent}
 use Rattle.keys.specs.Size.{limit}
-use Rattle.keys.specs.Places.{left_at, quotients_at, quotients-end, quotients-next, turned_within}
+use Rattle.keys.specs.Places.{left_at, quotients_at}
+use Rattle.keys.proofs.Places.{quotients-end, quotients-next, turned_within}
 use Rattle.scan.specs.Taking.{taken_from}
 use Rattle.scan.specs.Told.{Goes, told, taken_size}
 use Rattle.scan.specs.declared.Taken.TheVariants.{Quotient, Long, End}

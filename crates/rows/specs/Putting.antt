@@ -3,9 +3,10 @@ use Rattle.std.specs.Prelude.{◌≡◌, List, [], ◌∷◌, ◌++◌, ℕ, ◌
 use Rattle.std.proofs.Common.{◌∙◌, ap, append_assoc, append-nil, arith, length-append}
 use Rattle.std.proofs.Math.Nat.{div-div-eq-div-mul}
 use Rattle.bits.specs.Texts.{in_front, pasted}
-use Rattle.bits.specs.Memory.{lent_back}
-use Rattle.bits.specs.Pasting.{pasted-more}
-use Rattle.blocks.specs.Bytewise.{low_bytes, length_low}
+use Rattle.bits.proofs.Memory.{lent_back}
+use Rattle.bits.proofs.Pasting.{pasted-more}
+use Rattle.blocks.specs.Bytewise.{low_bytes}
+use Rattle.blocks.proofs.Bytewise.{length_low}
 use Rattle.tables.specs.declared.Row.{Row}
 use Rattle.tables.specs.Layouts.{stock_rows}
 use Rattle.tables.specs.Rows.{row_bytes}

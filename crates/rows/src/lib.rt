@@ -1,4 +1,6 @@
 // A row put into the memory of a stock table.
+#![tactic(auto)]
+
 ghost use Rattle.std.specs.Prelude.{◌≡◌};
 ghost use Rattle.tables.specs.Layouts.{stock_rows};
 ghost use Rattle.tables.specs.Moves.{put_at};

@@ -6,14 +6,14 @@ use Rattle.std.proofs.lemmas.List.{replicate-append-replicate}
 use Rattle.std.proofs.Math.Seq.{drop-append_seam}
 use Rattle.bits.specs.Strings.{Bits, Same}
 use Rattle.bits.specs.Binary.{number_of, first_bits}
-use Rattle.bits.specs.Numbers.{number-ones}
-use Rattle.bits.specs.Pieces.{first-append, first-same}
-use Rattle.bits.specs.Sums.{first-lt, number-first}
+use Rattle.bits.proofs.Numbers.{number-ones}
+use Rattle.bits.proofs.Pieces.{first-append, first-same}
+use Rattle.bits.proofs.Sums.{first-lt, number-first}
 use Rattle.families.specs.Families.{ended}
 use Rattle.families.specs.Words.{digits_after_one, word_of, first_number}
-use Rattle.families.specs.Digits.{number-digits, number_high}
-use Rattle.families.specs.Measured.{digits_low, word-length, word-number}
-use Rattle.families.specs.Complete.{word_complete}
+use Rattle.families.proofs.Digits.{number-digits, number_high}
+use Rattle.families.proofs.Measured.{digits_low, word-length, word-number}
+use Rattle.families.proofs.Complete.{word_complete}
 use Rattle.scan.specs.declared.Taken.TheVariants.{Quotient, Long}
 use Rattle.scan.specs.Taking.{taken_from, taken_many, taken_few}
 use Rattle.scan.specs.Runs.{Counted, number_read, Front, counted_many, run-counted, word-read}

@@ -4,7 +4,8 @@ use Rattle.std.specs.Prelude.{◌≡◌, refl, Bool, true, false, cond, List, []
 use Rattle.std.proofs.Common.{sym, ltb-false}
 use Prim.Native.Nat.{ℕ, ◌-◌, ◌≤◌}
 use Rattle.outcomes.specs.Outcomes.{Outcome, Refusal, refuses, called}
-use Rattle.outcomes.specs.Laws.{Clear, gives-clear}
+use Rattle.outcomes.specs.Laws.{Clear}
+use Rattle.outcomes.proofs.Laws.{gives-clear}
 use Rattle.outcomes.specs.Refusals.{first_strange, empty_key, long_key, strange_key, open_key, key_refusals}
 use Rattle.scan.specs.declared.Fault.{Fault}
 use Rattle.scan.specs.declared.Fault.TheVariants.{Empty, Long, Character, LastZero}

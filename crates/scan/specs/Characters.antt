@@ -10,13 +10,13 @@ use Rattle.std.proofs.lemmas.List.{length-map}
 use Rattle.std.proofs.Math.ListN.{get_or-map, get_or-eq_default}
 use Rattle.bits.specs.Strings.{Bits, all_ones}
 use Rattle.bits.specs.Binary.{number_from, first_bits}
-use Rattle.bits.specs.Numbers.{number-append}
-use Rattle.bits.specs.Memory.{lent_part}
-use Rattle.bits.specs.Pieces.{drop-map, length-first, first-add}
+use Rattle.bits.proofs.Numbers.{number-append}
+use Rattle.bits.proofs.Memory.{lent_part}
+use Rattle.bits.proofs.Pieces.{drop-map, length-first, first-add}
 use Rattle.bits.specs.Texts.{bits_of_text}
 use Rattle.families.specs.Families.{ended}
 use Rattle.families.specs.Words.{run_of, first_number}
-use Rattle.families.specs.Digits.{number_low, number_high}
+use Rattle.families.proofs.Digits.{number_low, number_high}
 use Rattle.keys.specs.Places.{left_at}
 use Rattle.load.specs.Gathering.{byte_digit}
 use Rattle.scan.specs.declared.Kind.{Kind}

@@ -4,11 +4,11 @@ use Rattle.std.proofs.Common.{sym, ap, arith, pow_pos}
 use Rattle.std.proofs.lemmas.Bool.{false≢true}
 use Rattle.bits.specs.Strings.{Bits, turn, all_ones}
 use Rattle.bits.specs.Binary.{number_of, first_bits}
-use Rattle.bits.specs.Numbers.{number-turn}
-use Rattle.bits.specs.Pieces.{length-first}
-use Rattle.bits.specs.Sums.{number-first}
+use Rattle.bits.proofs.Numbers.{number-turn}
+use Rattle.bits.proofs.Pieces.{length-first}
+use Rattle.bits.proofs.Sums.{number-first}
 use Rattle.families.specs.Families.{ended}
-use Rattle.families.specs.Digits.{number_low}
+use Rattle.families.proofs.Digits.{number_low}
 use Rattle.scan.specs.declared.Taken.TheVariants.{Long, End}
 use Rattle.scan.specs.Taking.{taken_from, taken-ended}
 use Rattle.scan.specs.Runs.{Counted}

@@ -10,7 +10,7 @@ use Rattle.std.proofs.Math.Pow.{pow_mono}
 use Rattle.bits.specs.Strings.{Bits}
 use Rattle.families.specs.Families.{ended}
 use Rattle.families.specs.Words.{word_of, first_number}
-use Rattle.families.specs.Measured.{word-length}
+use Rattle.families.proofs.Measured.{word-length}
 use Rattle.keys.specs.Size.{limit}
 use Rattle.keys.specs.Places.{left_at}
 use Rattle.scan.specs.declared.Kind.{Kind}

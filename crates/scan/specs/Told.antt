@@ -4,10 +4,11 @@ use Rattle.std.proofs.Common.{ltb-true, ltb-false}
 use Rattle.bits.specs.Strings.{Bits}
 use Rattle.families.specs.Families.{ended}
 use Rattle.families.specs.Words.{word_of, first_number}
-use Rattle.families.specs.Complete.{word_complete}
-use Rattle.families.specs.Published.{words1983}
-use Rattle.keys.specs.Size.{limit, word-fits}
-use Rattle.keys.specs.Reading.{word-positive}
+use Rattle.families.proofs.Complete.{word_complete}
+use Rattle.families.proofs.Published.{words1983}
+use Rattle.keys.specs.Size.{limit}
+use Rattle.keys.proofs.Size.{word-fits}
+use Rattle.keys.proofs.Reading.{word-positive}
 use Rattle.scan.specs.declared.Taken.{Taken}
 use Rattle.scan.specs.declared.Taken.TheVariants.{Quotient, Long, End}
 use Rattle.scan.specs.Taking.{taken_from}

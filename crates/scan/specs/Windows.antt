@@ -3,10 +3,10 @@ use Rattle.std.specs.Prelude.{◌≡◌, false, ℕ, ◌+◌, ◌*◌, ◌-◌, 
 use Rattle.std.proofs.Common.{sym, arith, shr-shr, length-drop, drop-drop}
 use Rattle.bits.specs.Strings.{Bits}
 use Rattle.bits.specs.Binary.{number_of, first_bits}
-use Rattle.bits.specs.Sums.{number_past, number-raised, first-joined, first_shifted}
+use Rattle.bits.proofs.Sums.{number_past, number-raised, first-joined, first_shifted}
 use Rattle.blocks.specs.declared.Block.{Block}
 use Rattle.blocks.specs.Blocks.{bits_of_block}
-use Rattle.blocks.specs.Laws.{block-length, block_high, block_low}
+use Rattle.blocks.proofs.Laws.{block-length, block_high, block_low}
 
 -- the 64 bits of s that begin at u
 abbrev pub window_at : Bits → ℕ → ℕ

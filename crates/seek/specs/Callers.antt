@@ -11,11 +11,13 @@ use Rattle.tables.specs.Layouts.{stock_rows}
 use Rattle.tables.specs.Rows.{row_size, room_of, rows_in}
 use Rattle.tables.specs.Sound.{sound, fitting}
 use Rattle.tables.specs.Stocks.{index_of}
-use Rattle.tables.specs.Moved.{count}
-use Rattle.tables.specs.Order.{sound_facts, Above}
-use Rattle.tables.specs.Parts.{Here as Found, Absent as Missing, Parted, here, absent, parted}
+use Rattle.tables.proofs.Moved.{count}
+use Rattle.tables.specs.Order.{Above}
+use Rattle.tables.proofs.Order.{sound_facts}
+use Rattle.tables.proofs.Parts.{Here as Found, Absent as Missing, Parted, here, absent, parted}
 use Rattle.outcomes.specs.Outcomes.{Outcome, gives, refuses, called}
-use Rattle.outcomes.specs.Laws.{Clear, clear-called}
+use Rattle.outcomes.specs.Laws.{Clear}
+use Rattle.outcomes.proofs.Laws.{clear-called}
 use Rattle.outcomes.specs.Stocking.{wrong_table, Call, find, denominator_of}
 use Rattle.outcomes.specs.Stocking.{stock_refusals, stock_values, stock_memory, stock_call}
 use Rattle.judge.specs.Callers.{Fine}

@@ -6,19 +6,20 @@ use mathlib.Core.List.{List, [], ◌∷◌}
 use Rattle.std.proofs.Math.Nat.{div-one}
 use borrow.Author.Tests.{eqb-true, eqb-false, eq-eqb}
 use Rattle.blocks.specs.Blocks.{block_of}
-use Rattle.families.specs.Published.{words1983}
+use Rattle.families.proofs.Published.{words1983}
 use Rattle.fractions.specs.Fractions.{Ratio, ◌over◌, gcd, lowest_terms}
-use Rattle.fractions.specs.Euclid.{lowest-same}
+use Rattle.fractions.proofs.Euclid.{lowest-same}
 use Rattle.keys.specs.Keys.{key_of, value_of_key}
-use Rattle.keys.specs.Back.{key_value}
-use Rattle.keys.specs.Order.{key_equal}
+use Rattle.keys.proofs.Back.{key_value}
+use Rattle.keys.proofs.Order.{key_equal}
 use Rattle.keys.specs.Size.{limit}
 use Rattle.tables.specs.declared.Row.{Row}
 use Rattle.tables.specs.Sound.{is_row}
 use Rattle.tables.specs.Stocks.{is_of, passed, index_of}
-use Rattle.tables.specs.Order.{Sound, row_parts, row-positive}
-use Rattle.tables.specs.Tables.{AllSmall}
-use Rattle.outcomes.specs.BlockOrder.{block_below_lem}
+use Rattle.tables.specs.Order.{Sound}
+use Rattle.tables.proofs.Order.{row_parts, row-positive}
+use Rattle.tables.proofs.Tables.{AllSmall}
+use Rattle.outcomes.proofs.BlockOrder.{block_below_lem}
 use Rattle.judge.specs.Judging.{row_before}
 use Rattle.seek.specs.Seeking.{same_terms}
 

@@ -13,9 +13,10 @@ use Rattle.tables.specs.Layouts.{stock_rows}
 use Rattle.tables.specs.Rows.{row_size, rows_in}
 use Rattle.tables.specs.Stocks.{index_of}
 use Rattle.tables.specs.Moves.{row_at}
-use Rattle.tables.specs.Moved.{row_at_lem}
-use Rattle.tables.specs.Order.{Sound, sound_facts, sound-row}
-use Rattle.tables.specs.Tables.{rows_from, rows-small, rows-drop, rows-next, rows-end}
+use Rattle.tables.proofs.Moved.{row_at_lem}
+use Rattle.tables.specs.Order.{Sound}
+use Rattle.tables.proofs.Order.{sound_facts, sound-row}
+use Rattle.tables.proofs.Tables.{rows_from, rows-small, rows-drop, rows-next, rows-end}
 use Rattle.judge.specs.declared.Judged.TheVariants.{Sound as Fair, WrongTable as Wrong, Unsound}
 use Rattle.judge.specs.Judging.{judged}
 use Rattle.judge.specs.Callers.{Fine, told_wrong, told_unsound, told-sound}

@@ -7,12 +7,12 @@ use borrow.Author.Tests.{lt-ltb, le-ltb}
 use Rattle.std.proofs.Math.ListN.{length, take, length-take, length-drop}
 use Rattle.std.proofs.Math.Seq.{length-take-le}
 use Rattle.bits.specs.Texts.{pasted}
-use Rattle.bits.specs.Pasting.{pasted-more, pasted-before, pasted-length}
+use Rattle.bits.proofs.Pasting.{pasted-more, pasted-before, pasted-length}
 use Rattle.blocks.specs.Bytewise.{low_bytes}
 use Rattle.tables.specs.declared.Row.{Row}
 use Rattle.tables.specs.Layouts.{stock_rows}
 use Rattle.tables.specs.Rows.{row_bytes}
-use Rattle.tables.specs.Tables.{length-row}
+use Rattle.tables.proofs.Tables.{length-row}
 use Rattle.tables.specs.Moves.{put_at, inserted_at, removed_at}
 
 zero-bytes : row_bytes stock_rows (record { numerator = 0; denominator = 0; quantity = 0 }) ≡ replicate 12 0

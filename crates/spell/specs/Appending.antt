@@ -4,7 +4,7 @@ use Rattle.std.proofs.Common.{sym, ◌∙◌, ap, div-add-mod', mod-lt, mod-eq_o
 use Rattle.std.proofs.Math.Arith.{digits_mod}
 use Rattle.bits.specs.Strings.{Bits}
 use Rattle.bits.specs.Binary.{number_of}
-use Rattle.bits.specs.Numbers.{number_from_lem, number-lt}
+use Rattle.bits.proofs.Numbers.{number_from_lem, number-lt}
 use Rattle.spell.specs.declared.line.Line.{Line}
 use Rattle.spell.specs.Lines.{Small, Fits, Appended, After}
 

@@ -6,17 +6,17 @@ use Rattle.std.proofs.Common.{◌∙◌, ap, div-add-mod', mod-lt, one-add, arit
 use Rattle.std.proofs.Math.ListN.{length}
 use Rattle.bits.specs.Strings.{Bits, turn, closed}
 use Rattle.bits.specs.Binary.{number_of}
-use Rattle.bits.specs.Numbers.{number-append}
-use Rattle.bits.specs.Trim.{closed-same}
+use Rattle.bits.proofs.Numbers.{number-append}
+use Rattle.bits.proofs.Trim.{closed-same}
 use Rattle.blocks.specs.Blocks.{block_of}
-use Rattle.blocks.specs.Laws.{block-same}
+use Rattle.blocks.proofs.Laws.{block-same}
 use Rattle.families.specs.Words.{word_of}
-use Rattle.families.specs.Published.{words1983}
+use Rattle.families.proofs.Published.{words1983}
 use Rattle.fractions.specs.Fractions.{gcd, form_of}
-use Rattle.fractions.specs.Euclid.{gcd-step}
-use Rattle.fractions.specs.TwoStates.{alternate-word, alternate-form}
+use Rattle.fractions.proofs.Euclid.{gcd-step}
+use Rattle.fractions.proofs.TwoStates.{alternate-word, alternate-form}
 use Rattle.keys.specs.Keys.{spelled, written, key_of, count_of}
-use Rattle.keys.specs.Size.{written_size, count_size}
+use Rattle.keys.proofs.Size.{written_size, count_size}
 use Rattle.spell.specs.declared.line.Line.{Line}
 use Rattle.spell.specs.declared.Spelled.{Spelled}
 use Rattle.spell.specs.declared.Spelled.TheVariants.{Key}

@@ -4,15 +4,15 @@ use Rattle.std.proofs.Common.{sym, ◌∙◌, ap, div-add-mod', mod-lt, le-div_i
 use Rattle.std.proofs.lemmas.List.{map-append, length-map}
 use Rattle.bits.specs.Strings.{Bits, turn}
 use Rattle.bits.specs.Binary.{number_of, number_from}
-use Rattle.bits.specs.Numbers.{number-append}
-use Rattle.bits.specs.Order.{turn-turn}
+use Rattle.bits.proofs.Numbers.{number-append}
+use Rattle.bits.proofs.Order.{turn-turn}
 use Rattle.blocks.specs.declared.Block.{Block}
 use Rattle.blocks.specs.Blocks.{block_of}
 use Rattle.families.specs.Words.{word_of}
-use Rattle.families.specs.Published.{words1983}
+use Rattle.families.proofs.Published.{words1983}
 use Rattle.fractions.specs.Fractions.{gcd}
-use Rattle.fractions.specs.Euclid.{gcd-end, gcd-step}
-use Rattle.fractions.specs.TwoStates.{alternate-end, alternate-word, alternate_turned, gcd_turned}
+use Rattle.fractions.proofs.Euclid.{gcd-end, gcd-step}
+use Rattle.fractions.proofs.TwoStates.{alternate-end, alternate-word, alternate_turned, gcd_turned}
 use Rattle.keys.specs.Keys.{spelled}
 use Rattle.spell.specs.declared.line.Line.{Line}
 use Rattle.spell.specs.Lines.{number_of_line, After}

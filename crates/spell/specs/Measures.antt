@@ -11,7 +11,7 @@ use Rattle.std.proofs.Math.Pow.{pow-lt}
 use Rattle.bits.specs.Strings.{turn}
 use Rattle.bits.specs.Binary.{number_of}
 use Rattle.families.specs.Words.{word_of}
-use Rattle.families.specs.Measured.{word-length, word-number, turned_word-number}
+use Rattle.families.proofs.Measured.{word-length, word-number, turned_word-number}
 use Rattle.spell.specs.declared.line.Measured.{Measured}
 use Rattle.spell.specs.Lines.{Measure}
 

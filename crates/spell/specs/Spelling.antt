@@ -3,7 +3,7 @@ use Rattle.std.specs.Prelude.{◌≡◌, true, cond, List, ℕ, ◌+◌, ◌^◌
 use Rattle.bits.specs.Strings.{Bits, turn}
 use Rattle.bits.specs.Binary.{number_of, number_from}
 use Rattle.blocks.specs.Blocks.{block_of}
-use Rattle.families.specs.Published.{words1983}
+use Rattle.families.proofs.Published.{words1983}
 use Rattle.fractions.specs.Fractions.{gcd, form_of}
 use Rattle.fractions.specs.TwoStates.{alternate}
 use Rattle.keys.specs.Keys.{spelled, key_of, count_of}

@@ -12,7 +12,7 @@ use Rattle.keys.specs.Size.{limit}
 use Rattle.keys.specs.Places.{left_at}
 use Rattle.outcomes.specs.Outcomes.{Outcome, Refusal, gives, refuses, called}
 use Rattle.outcomes.specs.Refusals.{long_quotient, outside}
-use Rattle.outcomes.specs.Cuts.{inside, beyond}
+use Rattle.outcomes.proofs.Cuts.{inside, beyond}
 use Rattle.outcomes.specs.Stepping.{place_of, start_text, quotient_at, found, place_after, step_text}
 use Rattle.scan.specs.Judging.{judgement, number_of_fault}
 use Rattle.scan.specs.Taking.{taken_from}

@@ -8,7 +8,7 @@ use Rattle.tables.specs.declared.Row.{Row}
 use Rattle.tables.specs.Layouts.{stock_rows}
 use Rattle.tables.specs.Rows.{row_size, room_of, rows_in}
 use Rattle.tables.specs.Stocks.{row_for, with_quantity}
-use Rattle.tables.specs.Tables.{length-rows}
+use Rattle.tables.proofs.Tables.{length-rows}
 use Rattle.tables.specs.Moves.{put_at, inserted_at}
 use Rattle.outcomes.specs.Outcomes.{Outcome, gives, refuses}
 use Rattle.outcomes.specs.Laws.{Clear}
@@ -17,7 +17,7 @@ use Rattle.seek.specs.declared.Fault.{Fault}
 use Rattle.seek.specs.declared.Sought.TheVariants.{Here, Absent, Faulty}
 use Rattle.seek.specs.Seeking.{sought}
 use Rattle.seek.specs.Callers.{number_of_fault, told_faulty, told-here, told-absent, told-given}
-use Rattle.tables.specs.Moved.{count, memory-put, memory_inserted}
+use Rattle.tables.proofs.Moved.{count, memory-put, memory_inserted}
 
 module _ (used p q n : ℕ) (m : List ℕ) where
   abbrev rows : List Row

@@ -1,7 +1,7 @@
 -- The number and the values that each struct of the stock table holds; and that these tell the struct.
 use Rattle.std.specs.Prelude.{◌≡◌, refl, [], ◌∷◌, eqb, get_or}
 use Rattle.bits.specs.Binary.{digit_of}
-use Rattle.bits.specs.Pieces.{bit_digit}
+use Rattle.bits.proofs.Pieces.{bit_digit}
 use Rattle.outcomes.specs.Outcomes.{Answer}
 use Rattle.stock_structs.specs.declared.Stocked.{Stocked}
 use Rattle.stock_structs.specs.declared.Found.{Found}

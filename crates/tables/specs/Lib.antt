@@ -4,13 +4,4 @@ pub mod Sound
 pub mod Stocks
 pub mod Moves
 pub mod Changes
-pub mod AsRun
 pub mod Order
-pub mod Held
-pub mod Kept
-pub mod Parts
-pub mod Numbers
-pub mod Tables
-pub mod Moved
-pub mod Sizes
-pub mod Changed

@@ -4,14 +4,15 @@ use Rattle.std.proofs.Common.{◌∙◌}
 use Rattle.std.proofs.Math.Bool.{cond}
 use Rattle.bits.specs.Strings.{Bits, closed}
 use Rattle.bits.specs.Texts.{text_of, in_front}
-use Rattle.bits.specs.Columns.{bytes-same}
+use Rattle.bits.proofs.Columns.{bytes-same}
 use Rattle.blocks.specs.Blocks.{bits_of_block}
 use Rattle.blocks.specs.declared.Block.{Block}
-use Rattle.families.specs.Published.{words1983}
+use Rattle.families.proofs.Published.{words1983}
 use Rattle.keys.specs.Keys.{key_of, column_of}
 use Rattle.outcomes.specs.Outcomes.{Answer, leaves, refuses, called}
 use Rattle.outcomes.specs.Refusals.{zero_denominator, short_buffer}
-use Rattle.outcomes.specs.Buffers.{Put, counted, put-called}
+use Rattle.outcomes.specs.Buffers.{Put, counted}
+use Rattle.outcomes.proofs.Buffers.{put-called}
 use Rattle.outcomes.specs.Writing.{counts, write_text, write_column}
 use Rattle.put.specs.Putting.{text_put, column_put}
 use Rattle.spell.specs.Callers.{Spells, told-zero, told-key, key-spells, key-some, block-holds, block-closed}

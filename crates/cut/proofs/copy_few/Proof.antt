@@ -4,7 +4,7 @@ use Prim.Native.Nat.{◌-◌, ◌≤◌}
 use native.Mathlib.Omega.{arith}
 use lib.ListN.{length, take, length-set}
 use Rattle.bits.specs.Texts.{in_front}
-use Rattle.bits.specs.Memory.{stored-more}
+use Rattle.bits.proofs.Memory.{stored-more}
 use Rattle.cut.proofs.copy_few.Statement.{statement}
 use Rattle.cut.proofs.copy_few.Tie as tie
 

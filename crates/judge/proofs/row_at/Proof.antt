@@ -4,7 +4,7 @@ use borrow.Author.Rules.{rules}
 use borrow.Author.Tests.{le-ltb}
 use Rattle.tables.specs.Layouts.{stock_rows}
 use Rattle.tables.specs.Moves.{row_at}
-use Rattle.tables.specs.Moved.{row_at_lem}
+use Rattle.tables.proofs.Moved.{row_at_lem}
 use Rattle.judge.proofs.row_at.Statement.{statement}
 use Rattle.judge.proofs.row_at.Tie as tie
 

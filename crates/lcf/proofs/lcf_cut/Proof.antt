@@ -1,6 +1,6 @@
 -- The struct says what the call behind it answered.
 use borrow.Author.Rules.{rules}
-use Rattle.outcomes.specs.Laws.{same-outcome}
+use Rattle.outcomes.proofs.Laws.{same-outcome}
 use Rattle.lcf.proofs.lcf_cut.Statement.{statement}
 use Rattle.lcf.proofs.lcf_cut.Tie as tie
 

@@ -5,7 +5,7 @@ use Prim.Native.Nat.{◌-◌}
 use native.Mathlib.Omega.{arith}
 use borrow.Author.Rules.{rules}
 use lib.ListN.{length, length-drop}
-use Rattle.bits.specs.Memory.{lent_part}
+use Rattle.bits.proofs.Memory.{lent_part}
 use Rattle.list.specs.Ratios.{answer_size}
 use Rattle.list.specs.Going.{Going, going-start, going_fed, going-answered, going-full, going-end}
 use Rattle.list.proofs.list.Statement.{statement}

@@ -3,7 +3,7 @@ use native.Mathlib.Omega.{arith}
 use lib.ListN.{length}
 use borrow.Author.Rules.{rules}
 use borrow.Author.Tests.{lt-ltb, le-ltb}
-use Rattle.numerals.specs.Laws.{decimal_size}
+use Rattle.numerals.proofs.Laws.{decimal_size}
 use Rattle.put.specs.Putting.{decimal_put}
 use Rattle.put.specs.Decimals.{last-all}
 use Rattle.put.proofs.put_decimal.Statement.{statement}

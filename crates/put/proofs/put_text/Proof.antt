@@ -6,7 +6,7 @@ use borrow.Author.Tests.{lt-ltb}
 use borrow.Author.Rules.{rules}
 use Rattle.bits.specs.Binary.{digits_in}
 use Rattle.bits.specs.Texts.{text_of}
-use Rattle.bits.specs.Memory.{lent_part, lent_back}
+use Rattle.bits.proofs.Memory.{lent_part, lent_back}
 use Rattle.put.specs.Putting.{text_put}
 use Rattle.put.specs.KeyText.{key-length, high_text, both_text}
 use Rattle.put.proofs.put_text.Statement.{statement}

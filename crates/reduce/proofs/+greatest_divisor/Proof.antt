@@ -5,7 +5,7 @@ use native.Mathlib.Nat.{div-add-mod', mod-lt}
 use native.Mathlib.Omega.{arith}
 use borrow.Fn.Kinds.{In}
 use borrow.Fn.PlainCycle.{Measures, is, falls, and}
-use Rattle.fractions.specs.Euclid.{gcd-end, gcd-step}
+use Rattle.fractions.proofs.Euclid.{gcd-end, gcd-step}
 use Rattle.reduce.proofs.greatest_divisor.Reads as reads
 use Rattle.reduce.proofs.greatest_divisor.Kinds as kinds
 use Rattle.reduce.proofs.+greatest_divisor.Lts-greatest_divisor as lts

@@ -4,7 +4,7 @@ use native.Mathlib.Omega.{arith}
 use borrow.Author.Rules.{rules}
 use borrow.Author.Tests.{eq-eqb, ne_eqb}
 use Rattle.fractions.specs.Fractions.{lowest_terms}
-use Rattle.fractions.specs.Euclid.{usual-scaled}
+use Rattle.fractions.proofs.Euclid.{usual-scaled}
 use Rattle.outcomes.specs.Reading.{reduce}
 use Rattle.reduce.proofs.lowest_terms.Statement.{statement}
 use Rattle.reduce.proofs.lowest_terms.Tie as tie

@@ -10,7 +10,7 @@ use lib.Seq.{drop-drop}
 use Rattle.bits.specs.Strings.{Bits, turn}
 use Rattle.bits.specs.Binary.{number_of, first_bits}
 use Rattle.blocks.specs.Blocks.{bits_of_block}
-use Rattle.blocks.specs.Laws.{block-length}
+use Rattle.blocks.proofs.Laws.{block-length}
 use Rattle.scan.specs.declared.Kind.TheVariants.{Word, Turned}
 use Rattle.scan.specs.Taking.{taken_from, taken_at, taken_at_lem}
 use Rattle.scan.specs.Ended.{turned_window, not-ended, long_turned, end_turned, end_in_two}

@@ -2,7 +2,7 @@
 use mathlib.Core.Path.{◌≡◌, refl}
 use Prim.Native.Nat.{◌-◌}
 use native.Mathlib.Omega.{arith}
-use Rattle.bits.specs.Moving.{Lowered, lowered-start, lowered-more}
+use Rattle.bits.proofs.Moving.{Lowered, lowered-start, lowered-more}
 use Rattle.shift.proofs.lower.Statement.{statement}
 use Rattle.shift.proofs.lower.Tie as tie
 

@@ -1,7 +1,7 @@
 -- The invariant: the bytes from i to last stand a row up. The measure is i.
 use mathlib.Core.Path.{◌≡◌, refl}
 use native.Mathlib.Omega.{arith}
-use Rattle.bits.specs.Moving.{Raised, raised-start, raised-more}
+use Rattle.bits.proofs.Moving.{Raised, raised-start, raised-more}
 use Rattle.shift.proofs.raise.Statement.{statement}
 use Rattle.shift.proofs.raise.Tie as tie
 

@@ -2,7 +2,7 @@
 use native.Mathlib.Omega.{arith}
 use lib.ListN.{length-set}
 use borrow.Author.Rules.{rules}
-use Rattle.bits.specs.Memory.{stored-front}
+use Rattle.bits.proofs.Memory.{stored-front}
 use Rattle.lines.specs.Lines.{printed}
 use Rattle.list.proofs.answer.put_refused.Statement.{statement}
 use Rattle.list.proofs.answer.put_refused.Tie as tie

@@ -6,7 +6,7 @@ use Prim.Native.Nat.{ℕ, ◌-◌, ◌≤◌}
 use native.Mathlib.Omega.{arith}
 use borrow.Author.Rules.{rules}
 use lib.ListN.{length}
-use Rattle.blocks.specs.Bytewise.{length_low}
+use Rattle.blocks.proofs.Bytewise.{length_low}
 use Rattle.load.specs.Passing.{Passed, passed_none, passed-group, passed-last}
 use Rattle.load.proofs.eights.are_plain.Statement.{statement}
 use Rattle.load.proofs.eights.are_plain.Tie as tie

@@ -5,7 +5,7 @@ use Prim.Native.Nat.{ℕ, ◌-◌, ◌^◌, ◌≤◌, ◌<◌}
 use native.Mathlib.Omega.{arith}
 use borrow.Author.Rules.{rules}
 use lib.ListN.{length}
-use Rattle.blocks.specs.Bytewise.{length_low}
+use Rattle.blocks.proofs.Bytewise.{length_low}
 use Rattle.load.specs.Gathering.{Gathered, gathered-fits, gathered-group}
 use Rattle.load.proofs.eights.gather.Statement.{statement}
 use Rattle.load.proofs.eights.gather.Tie as tie

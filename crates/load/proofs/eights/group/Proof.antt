@@ -1,6 +1,6 @@
 -- What is lent is the text from the place on.
 use borrow.Author.Rules.{rules}
-use Rattle.bits.specs.Memory.{lent_part}
+use Rattle.bits.proofs.Memory.{lent_part}
 use Rattle.load.proofs.eights.group.Statement.{statement}
 use Rattle.load.proofs.eights.group.Tie as tie
 

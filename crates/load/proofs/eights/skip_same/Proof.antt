@@ -4,7 +4,8 @@ use Prim.Native.Nat.{◌-◌, ◌≤◌}
 use native.Mathlib.Omega.{arith}
 use borrow.Author.Rules.{rules}
 use lib.ListN.{length}
-use Rattle.blocks.specs.Bytewise.{low_bytes, length_low}
+use Rattle.blocks.specs.Bytewise.{low_bytes}
+use Rattle.blocks.proofs.Bytewise.{length_low}
 use Rattle.load.specs.Fronts.{Shared, shared_none, shared-group}
 use Rattle.load.proofs.eights.skip_same.Statement.{statement}
 use Rattle.load.proofs.eights.skip_same.Tie as tie

@@ -3,7 +3,7 @@ use native.Mathlib.Nat.{div-one}
 use native.Mathlib.Omega.{arith}
 use lib.ListN.{length-set}
 use borrow.Author.Rules.{rules}
-use Rattle.bits.specs.Memory.{stored-front}
+use Rattle.bits.proofs.Memory.{stored-front}
 use Rattle.put.specs.Bytes.{bytes_in}
 use Rattle.put.proofs.column.put_high.Statement.{statement}
 use Rattle.put.proofs.column.put_high.Tie as tie

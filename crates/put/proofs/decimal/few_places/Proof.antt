@@ -1,6 +1,6 @@
 -- The tests that lead to a return put the number between two powers of ten.
 use native.Mathlib.Omega.{arith}
-use Rattle.numerals.specs.Laws.{decimal_length}
+use Rattle.numerals.proofs.Laws.{decimal_length}
 use Rattle.put.proofs.decimal.few_places.Statement.{statement}
 use Rattle.put.proofs.decimal.few_places.Tie as tie
 

@@ -1,7 +1,7 @@
 -- The tests that lead to a return put the number between two powers of ten. The call counts up to five digits.
 use native.Mathlib.Omega.{arith}
 use borrow.Author.Rules.{rules}
-use Rattle.numerals.specs.Laws.{decimal_length}
+use Rattle.numerals.proofs.Laws.{decimal_length}
 use Rattle.put.proofs.decimal.places.Statement.{statement}
 use Rattle.put.proofs.decimal.places.Tie as tie
 

@@ -6,7 +6,7 @@ use native.Mathlib.Omega.{arith}
 use lib.ListN.{length-drop}
 use borrow.Author.Rules.{rules}
 use Rattle.bits.specs.Binary.{digits_in}
-use Rattle.bits.specs.Memory.{lent_part, lent_back}
+use Rattle.bits.proofs.Memory.{lent_part, lent_back}
 use Rattle.put.specs.Piecewise.{PutTo, put_none, put-more, put_last}
 use Rattle.blocks.specs.Bytewise.{low_bytes}
 use Rattle.put.proofs.text.put_bits.Statement.{statement}

@@ -5,8 +5,9 @@ use native.Mathlib.Omega.{arith}
 use lib.ListN.{length-set}
 use lib.Seq.{sets}
 use borrow.Author.Rules.{rules}
-use Rattle.bits.specs.Memory.{stored-front}
-use Rattle.blocks.specs.Bytewise.{low_bytes, length_low, eight-bytes}
+use Rattle.bits.proofs.Memory.{stored-front}
+use Rattle.blocks.specs.Bytewise.{low_bytes}
+use Rattle.blocks.proofs.Bytewise.{length_low, eight-bytes}
 use Rattle.put.proofs.text.put_eight.Statement.{statement}
 use Rattle.put.proofs.text.put_eight.Tie as tie
 

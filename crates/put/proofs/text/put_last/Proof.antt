@@ -7,7 +7,7 @@ use lib.ListN.{take, drop}
 use borrow.Author.Rules.{rules}
 use Rattle.bits.specs.Binary.{digits_in}
 use Rattle.bits.specs.Texts.{text_of}
-use Rattle.bits.specs.Memory.{lent_back}
+use Rattle.bits.proofs.Memory.{lent_back}
 use Rattle.blocks.specs.Bytewise.{low_bytes}
 use Rattle.put.specs.Piecewise.{shifted_text}
 use Rattle.put.proofs.text.put_last.Statement.{statement}

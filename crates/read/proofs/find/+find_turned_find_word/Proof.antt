@@ -6,7 +6,7 @@ use Prim.Native.Nat.{ℕ, ◌+◌, ◌*◌, ◌-◌, ◌<◌}
 use native.Mathlib.Omega.{arith}
 use borrow.Fn.Kinds.{In}
 use borrow.Fn.PlainCycle.{Measures, is, falls, and}
-use Rattle.blocks.specs.Laws.{block-length}
+use Rattle.blocks.proofs.Laws.{block-length}
 use Rattle.read.specs.Finding.{bits_in}
 use Rattle.read.specs.Steps.{found-end, found_long, Makes, word_size, makes-within, found_over, found_on}
 use Rattle.scan.proofs.take.Reads as take-reads

@@ -3,7 +3,7 @@ use mathlib.Core.Bool.{false}
 use native.Mathlib.Omega.{arith}
 use borrow.Author.Rules.{rules}
 use lib.ListN.{drop}
-use Rattle.bits.specs.Sums.{first-lt}
+use Rattle.bits.proofs.Sums.{first-lt}
 use Rattle.blocks.specs.Blocks.{bits_of_block}
 use Rattle.scan.specs.Windows.{window_high, window_low, window_none}
 use Rattle.scan.proofs.words.window.Statement.{statement}

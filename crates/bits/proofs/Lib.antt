@@ -1,0 +1,10 @@
+pub mod AsPrinted
+pub mod Order
+pub mod Trim
+pub mod Numbers
+pub mod Pieces
+pub mod Sums
+pub mod Columns
+pub mod Pasting
+pub mod Moving
+pub mod Memory

@@ -1,0 +1,5 @@
+pub mod AsPrinted
+pub mod Lists
+pub mod Euclid
+pub mod TwoStates
+pub mod Convergents

@@ -1,0 +1,12 @@
+pub mod AsPrinted
+pub mod Spelling
+pub mod Reading
+pub mod Back
+pub mod Order
+pub mod Size
+pub mod Places
+pub mod Cutting
+pub mod Widths
+pub mod Near
+pub mod Close
+pub mod Distance

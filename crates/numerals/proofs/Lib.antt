@@ -1,0 +1,2 @@
+pub mod AsPrinted
+pub mod Laws

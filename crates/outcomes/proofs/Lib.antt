@@ -1,0 +1,14 @@
+pub mod AsPrinted
+pub mod ListingAsPrinted
+pub mod StockingAsRun
+pub mod Laws
+pub mod Buffers
+pub mod TextKeys
+pub mod RoundTrips
+pub mod Cuts
+pub mod Standings
+pub mod FrontOrder
+pub mod BlockOrder
+pub mod Steps
+pub mod Rewriting
+pub mod Shapes

@@ -1,0 +1,10 @@
+pub mod AsRun
+pub mod Order
+pub mod Held
+pub mod Kept
+pub mod Parts
+pub mod Numbers
+pub mod Tables
+pub mod Moved
+pub mod Sizes
+pub mod Changed
