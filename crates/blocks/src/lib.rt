@@ -1,5 +1,5 @@
 // A key's 96 bits in two machine words: its first 64 characters in `high`, top bit first, and the next 32 in `low`.
-#[derive(Drop)]
+#[derive(Clone, Copy)]
 pub struct Block {
     pub high: u64,
     pub low: u32,
