@@ -1,5 +1,7 @@
 // The key of a ratio in two machine words, by one Euclid: quotients don't depend on common factors, so none is taken
 // out first, and the last divisor is the greatest common one.
+#![tactic(auto)]
+
 ghost use Rattle.std.specs.Prelude.{◌≡◌};
 ghost use Rattle.spell.specs.Spelling.{spelling, Continued, Room};
 
