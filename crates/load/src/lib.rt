@@ -1,4 +1,6 @@
 // Text or a column taken into a block, a text's first strange character, and the front that two texts share.
+#![tactic(auto)]
+
 ghost use Rattle.std.specs.Prelude.{◌≡◌, ◌≤◌, length};
 ghost use Rattle.bits.specs.Texts.{bits_of_text};
 ghost use Rattle.blocks.specs.Blocks.{block_of};

@@ -1,0 +1,18 @@
+-- A group of bits is passed. Where at most eight characters are left, they are among the last eight.
+use Rattle.std.proofs.Common.{◌-◌, length, arith}
+use Rattle.blocks.proofs.Bytewise.{length_low}
+use Rattle.load.specs.Passing.{passed-group, passed-last}
+use Rattle.load.proofs.eights.are_plain.Goals as goal
+
+pub loop-i-preserved : goal.loop-i-preserved
+loop-i-preserved c = (
+  omega arith,
+  passed-group c.args.k.now c.loop-i.i 8 (length_low 8 c.group.result) c.group.ensures
+      (c.is_plain.ensures c.if-is_plain.true) c.loop-i.invariant.1,
+)
+
+pub returns : goal.returns
+returns c plain =
+    let k = c.args.k.now in
+    passed-last k (length k - 8) c.loop-i.i 8 c.group-2.ensures (omega arith) (omega arith) (omega arith)
+    (c.is_plain-2.ensures plain) c.loop-i.invariant.1
