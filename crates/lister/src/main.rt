@@ -1,50 +1,62 @@
 // The ratio lister: a ratio in each line of standard input, and for each line its answer on standard output. It reads
 // and writes in large parts and holds two buffers, however long the input and its lines are.
+#![tactic(auto)]
+
 ghost use Rattle.std.specs.Prelude.{◌+◌, ◌≤◌, ◌<◌, length};
 ghost use Rattle.lister.specs.Buffers.{HasRoom, IsWithin, ListsFrom};
 
 use fields::Field;
-use libc::{STDIN_FILENO, STDOUT_FILENO};
 use list::Listed;
+use std::io::{Read, Write};
+use std::process::ExitCode;
+use std::{fmt, io};
 
-// How many bytes at the front of the output buffer wait to be written; or that a write failed.
-#[derive(Drop)]
-enum Held {
-    Waiting(usize),
-    Failed,
+// How many bytes each buffer holds.
+const PART: usize = 65_536;
+
+// What failed, where the lister stops before the end of its input.
+#[derive(Debug, Drop)]
+enum Stopped {
+    Reading(io::Error),
+    Writing(io::Error),
 }
 
-// The field of the line that isn't ended yet and what waits; or that a write failed.
+impl fmt::Display for Stopped {
+    fn fmt<W: fmt::Write>(&self, f: &mut fmt::Formatter<W>) -> fmt::Result {
+        match self {
+            Stopped::Reading(e) => write!(f, "reading: {e}"),
+            Stopped::Writing(e) => write!(f, "writing: {e}"),
+        }
+    }
+}
+
+// The field of the line that isn't ended yet, and how many bytes at the front of the output buffer wait to be written.
 #[derive(Drop)]
-enum Went {
-    On { field: Field, held: usize },
-    Stopped,
+struct Waiting {
+    field: Field,
+    held: usize,
 }
 
 // Writes what waits.
-fn put_out(held: usize, out: &[u8]) -> bool
+fn put_out<W: Write>(to: &mut W, held: usize, out: &[u8]) -> Result<(), Stopped>
     requires { held ≤ length out.now }
 {
-    if io::write_all(STDOUT_FILENO, &out[..held]) {
-        return true;
+    match to.write_all(&out[..held]) {
+        Ok(()) => Ok(()),
+        Err(e) => Err(Stopped::Writing(e)),
     }
-    os::fail(b"lister: writing");
-    false
 }
 
-// Room for an answer: where there is less, what waits is written.
-fn make_room(held: usize, out: &[u8]) -> Held
+// Room for an answer: where there is less, what waits is written. How many bytes then wait.
+fn make_room<W: Write>(to: &mut W, held: usize, out: &[u8]) -> Result<usize, Stopped>
     requires { (held ≤ length out.now) × (130 ≤ length out.now) }
     ensures { HasRoom (length out.now) result }
 {
     if list::ROOM <= out.len() - held {
-        return Held::Waiting(held);
+        return Ok(held);
     }
-    if put_out(held, out) {
-        Held::Waiting(0)
-    } else {
-        Held::Failed
-    }
+    put_out(to, held, out)?;
+    Ok(0)
 }
 
 // Lists what stands in part from at on, into out from held on.
@@ -56,7 +68,13 @@ fn list_from(field: Field, part: &[u8], at: usize, out: &mut [u8], held: usize) 
 }
 
 // Lists all of a part that was read.
-fn list_part(begun: Field, waiting: usize, part: &[u8], out: &mut [u8]) -> Went
+fn list_part<W: Write>(
+    to: &mut W,
+    begun: Field,
+    waiting: usize,
+    part: &[u8],
+    out: &mut [u8],
+) -> Result<Waiting, Stopped>
     requires { (waiting ≤ length out.old) × (130 ≤ length out.old) }
     ensures { IsWithin (length out.old) result }
 {
@@ -64,16 +82,13 @@ fn list_part(begun: Field, waiting: usize, part: &[u8], out: &mut [u8]) -> Went
     let mut held = waiting;
     let mut at = 0;
     while at < part.len() {
-        let room = make_room(held, out);
-        let Held::Waiting(from) = room else {
-            return Went::Stopped;
-        };
+        let from = make_room(to, held, out)?;
         let listed = list_from(field, part, at, out, from);
         at += listed.taken;
         held = from + listed.written;
         field = listed.field;
     }
-    Went::On { field, held }
+    Ok(Waiting { field, held })
 }
 
 // Lists a last line that has no newline, into out from held on; how much then waits.
@@ -86,51 +101,53 @@ fn list_last(field: Field, out: &mut [u8], held: usize) -> usize
 }
 
 // The end of the input.
-fn end(field: Field, held: usize, out: &mut [u8])
+fn end<W: Write>(to: &mut W, field: Field, held: usize, out: &mut [u8]) -> Result<(), Stopped>
     requires { (held ≤ length out.old) × (130 ≤ length out.old) }
 {
-    let room = make_room(held, out);
-    let Held::Waiting(from) = room else {
-        return;
-    };
+    let from = make_room(to, held, out)?;
     let n = list_last(field, out, from);
-    put_out(n, out);
+    put_out(to, n, out)
 }
 
-// Nothing says that an input ends, so the turns are counted down, from a number that no run uses up.
-fn list_input(input: &mut [u8], out: &mut [u8])
+// How many bytes a read put at the front of the input buffer: none at the end of the input.
+fn get_part<R: Read>(from: &mut R, input: &mut [u8]) -> Result<usize, Stopped> {
+    match from.read(input) {
+        Ok(n) => Ok(n),
+        Err(e) => Err(Stopped::Reading(e)),
+    }
+}
+
+// Nothing says that an input ends, so the turns are counted, up to a number that no run uses up.
+fn list_input<R: Read, W: Write>(
+    from: &mut R,
+    to: &mut W,
+    input: &mut [u8],
+    out: &mut [u8],
+) -> Result<(), Stopped>
     requires { 130 ≤ length out.old }
 {
     let mut field = Field::Empty;
     let mut held = 0;
-    let mut turns = u64::MAX;
-    while turns > 0 {
-        let got = libc::read(STDIN_FILENO, input);
-        if got < 0 {
-            os::fail(b"lister: reading");
-            return;
-        }
-        let n = io::count(got, input);
+    for _ in 0..u64::MAX {
+        let n = get_part(from, input)?;
         if n == 0 {
-            end(field, held, out);
-            return;
+            return end(to, field, held, out);
         }
-        let went = list_part(field, held, &input[..n], out);
-        let Went::On {
-            field: next,
-            held: waiting,
-        } = went
-        else {
-            return;
-        };
-        field = next;
-        held = waiting;
-        turns -= 1;
+        let went = list_part(to, field, held, &input[..n], out)?;
+        field = went.field;
+        held = went.held;
     }
+    Ok(())
 }
 
-fn main() {
-    let mut input = io::large_buffer();
-    let mut out = io::large_buffer();
-    list_input(&mut input, &mut out);
+fn main(rt: HostRuntime) -> ExitCode {
+    let mut input = [0; PART];
+    let mut out = [0; PART];
+    match list_input(&mut rt.stdin(), &mut rt.stdout(), &mut input, &mut out) {
+        Ok(()) => ExitCode::SUCCESS,
+        Err(stopped) => {
+            let _ = eprintln!(rt; "lister: {stopped}");
+            ExitCode::FAILURE
+        }
+    }
 }

@@ -1,22 +1,22 @@
 // Printing: bytes, numbers, and what memory holds.
-use libc::STDOUT_FILENO;
+use std::io;
 
 // Bytes as they are.
-pub fn text(s: &[u8]) {
-    io::write_all(STDOUT_FILENO, s);
+pub fn text(rt: &impl Print, s: &[u8]) -> io::Result<()> {
+    rt.write_all(s)
 }
 
 // A number after a word.
-pub fn number(word: &[u8], n: u64) {
-    text(word);
-    io::print_decimal(STDOUT_FILENO, n);
+pub fn number(rt: &impl Print, word: &[u8], n: u64) -> io::Result<()> {
+    text(rt, word)?;
+    print!(rt; "{n}")
 }
 
 // Every byte of a table's memory.
-pub fn memory(table: &[u8]) {
-    text(b"memory");
+pub fn memory(rt: &impl Print, table: &[u8]) -> io::Result<()> {
+    text(rt, b"memory")?;
     for i in 0..table.len() {
-        number(b" ", table[i] as u64);
+        number(rt, b" ", table[i] as u64)?;
     }
-    text(b"\n");
+    text(rt, b"\n")
 }

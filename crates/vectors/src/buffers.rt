@@ -2,15 +2,16 @@
 ghost use Rattle.std.specs.Prelude.{true, ◌≡◌, ℕ, ◌<◌, ◌≤◌, get_or, take};
 
 use crate::show;
+use std::io;
 
 // Every byte of a buffer before it is lent, so that a change shows.
 pub const FILL: u8 = 7;
 
 // The length that a call is lent of a buffer.
-pub fn room(n: usize) {
-    show::text(b" into ");
-    show::number(n as u64);
-    show::text(b" bytes: ");
+pub fn room(rt: &impl Print, n: usize) -> io::Result<()> {
+    show::text(rt, b" into ")?;
+    show::number(rt, n as u64)?;
+    show::text(rt, b" bytes: ")
 }
 
 // The first n bytes of s, or all where there are fewer, for a call that writes.
@@ -38,28 +39,28 @@ fn kept(buffer: &[u8; 128], from: usize) -> bool
 }
 
 // The end of a line on a buffer whose first bytes, own in number, are the result's.
-pub fn rest(buffer: &[u8; 128], own: usize) {
+pub fn rest(rt: &impl Print, buffer: &[u8; 128], own: usize) -> io::Result<()> {
     if kept(buffer, own) {
-        show::text(b", rest kept\n");
+        show::text(rt, b", rest kept\n")
     } else {
-        show::text(b", rest changed\n");
+        show::text(rt, b", rest changed\n")
     }
 }
 
 // A key at the front of a buffer, how many characters it has, and the end of the line.
-pub fn key(buffer: &[u8; 128], characters: usize) {
-    show::text(show::front(buffer, characters));
-    show::text(b", characters ");
-    show::number(characters as u64);
-    rest(buffer, characters);
+pub fn key(rt: &impl Print, buffer: &[u8; 128], characters: usize) -> io::Result<()> {
+    show::text(rt, show::front(buffer, characters))?;
+    show::text(rt, b", characters ")?;
+    show::number(rt, characters as u64)?;
+    rest(rt, buffer, characters)
 }
 
 // A refusal of a call that was lent a buffer, and the end of the line.
-pub fn refused_all(n: u64, buffer: &[u8; 128]) {
-    show::refusal(n);
+pub fn refused_all(rt: &impl Print, n: u64, buffer: &[u8; 128]) -> io::Result<()> {
+    show::refusal(rt, n)?;
     if kept(buffer, 0) {
-        show::text(b", all kept\n");
+        show::text(rt, b", all kept\n")
     } else {
-        show::text(b", all changed\n");
+        show::text(rt, b", all changed\n")
     }
 }

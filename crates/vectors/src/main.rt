@@ -1,5 +1,9 @@
 // Runs the calls on the cases that 001 and the scope print, and prints a line for each: the case, and what was found.
 // Every line is made from a call's answer; what is expected is in the file `stdout` alone.
+#![tactic(auto)]
+
+use std::io;
+
 mod buffers;
 mod gaps;
 mod limits;
@@ -11,24 +15,24 @@ mod show;
 mod texts;
 mod walks;
 
-fn main() {
-    paper::table_one();
-    paper::section_three();
-    limits::table();
-    limits::range();
-    limits::faults();
-    limits::cutting();
-    limits::counts();
-    refusals::ratios();
-    refusals::columns();
-    refusals::texts();
-    refusals::packed();
-    refusals::comparing();
-    refusals::earlier();
-    refusals::cutting();
-    walks::starting();
-    walks::stepping();
-    walks::places();
-    walks::quotients();
-    walks::steps();
+fn main(rt: HostRuntime) -> io::Result<()> {
+    paper::table_one(&rt)?;
+    paper::section_three(&rt)?;
+    limits::table(&rt)?;
+    limits::range(&rt)?;
+    limits::faults(&rt)?;
+    limits::cutting(&rt)?;
+    limits::counts(&rt)?;
+    refusals::ratios(&rt)?;
+    refusals::columns(&rt)?;
+    refusals::texts(&rt)?;
+    refusals::packed(&rt)?;
+    refusals::comparing(&rt)?;
+    refusals::earlier(&rt)?;
+    refusals::cutting(&rt)?;
+    walks::starting(&rt)?;
+    walks::stepping(&rt)?;
+    walks::places(&rt)?;
+    walks::quotients(&rt)?;
+    walks::steps(&rt)
 }

@@ -2,31 +2,31 @@
 ghost use Rattle.std.specs.Prelude.{◌≡◌, ◌+◌, ◌<◌, ◌≤◌, take};
 ghost use Rattle.scan.specs.Judging.{number_of_fault};
 
-use libc::STDOUT_FILENO;
 use scan::Fault;
+use std::io;
 
 // Bytes as they are.
-pub fn text(s: &[u8]) {
-    io::write_all(STDOUT_FILENO, s);
+pub fn text(rt: &impl Print, s: &[u8]) -> io::Result<()> {
+    rt.write_all(s)
 }
 
 // A number in decimal digits.
-pub fn number(n: u64) {
-    io::print_decimal(STDOUT_FILENO, n);
+pub fn number(rt: &impl Print, n: u64) -> io::Result<()> {
+    print!(rt; "{n}")
 }
 
 // A ratio.
-pub fn ratio(p: u32, q: u32) {
-    number(p as u64);
-    text(b"/");
-    number(q as u64);
+pub fn ratio(rt: &impl Print, p: u32, q: u32) -> io::Result<()> {
+    number(rt, p as u64)?;
+    text(rt, b"/")?;
+    number(rt, q as u64)
 }
 
 // A case on a key.
-pub fn case(name: &[u8], k: &[u8]) {
-    text(name);
-    text(k);
-    text(b": ");
+pub fn case(rt: &impl Print, name: &[u8], k: &[u8]) -> io::Result<()> {
+    text(rt, name)?;
+    text(rt, k)?;
+    text(rt, b": ")
 }
 
 // A hexadecimal digit, in upper case.
@@ -41,18 +41,19 @@ fn glyph(d: u8) -> u8
 }
 
 // A byte as two hexadecimal digits.
-fn hex(b: u8) {
-    text(&[glyph(b / 16), glyph(b % 16)]);
+fn hex(rt: &impl Print, b: u8) -> io::Result<()> {
+    text(rt, &[glyph(b / 16), glyph(b % 16)])
 }
 
 // A column's bytes, one space between.
-pub fn column(c: &[u8]) {
+pub fn column(rt: &impl Print, c: &[u8]) -> io::Result<()> {
     for i in 0..c.len() {
         if 0 < i {
-            text(b" ");
+            text(rt, b" ")?;
         }
-        hex(c[i]);
+        hex(rt, c[i])?;
     }
+    Ok(())
 }
 
 // The first n bytes of s, or all where there are fewer.
@@ -78,13 +79,13 @@ pub fn number_of(fault: Fault) -> u64
 }
 
 // A refusal by its number.
-pub fn refusal(n: u64) {
-    text(b"refused ");
-    number(n);
+pub fn refusal(rt: &impl Print, n: u64) -> io::Result<()> {
+    text(rt, b"refused ")?;
+    number(rt, n)
 }
 
 // A refusal, and the end of the line.
-pub fn refused(n: u64) {
-    refusal(n);
-    text(b"\n");
+pub fn refused(rt: &impl Print, n: u64) -> io::Result<()> {
+    refusal(rt, n)?;
+    text(rt, b"\n")
 }
