@@ -1,5 +1,7 @@
 // A block put out as text or as a column, a number in decimal digits. Each gives how many characters its key or its
 // numeral has, and 0, which is the length of none, where the buffer is too short.
+#![tactic(auto)]
+
 ghost use Rattle.std.specs.Prelude.{◌≡◌, length};
 ghost use Rattle.bits.specs.Strings.{closed};
 ghost use Rattle.blocks.specs.Blocks.{bits_of_block};
@@ -25,6 +27,7 @@ fn characters_of(b: Block) -> usize
 }
 
 // As text at the front of out. Only the key's own characters are written.
+#[tactic(auto, unfolding(crate::specs::Putting::text_put))]
 pub fn put_text(b: Block, out: &mut [u8]) -> usize
     ensures { (result, out.new) ≡ text_put (bits_of_block b) out.old }
 {
@@ -45,6 +48,7 @@ pub fn put_text(b: Block, out: &mut [u8]) -> usize
 
 // As a column at the front of out, 12 bytes. The characters are counted between the two puts: with a branch between
 // them each becomes one store.
+#[tactic(auto, unfolding(crate::specs::Putting::column_put))]
 pub fn put_column(b: Block, out: &mut [u8]) -> usize
     ensures { (result, out.new) ≡ column_put (bits_of_block b) out.old }
 {
@@ -60,6 +64,7 @@ pub fn put_column(b: Block, out: &mut [u8]) -> usize
 }
 
 // A number in decimal digits at the front of out.
+#[tactic(auto, unfolding(crate::specs::Putting::decimal_put))]
 pub fn put_decimal(n: u32, out: &mut [u8]) -> usize
     ensures { (result, out.new) ≡ decimal_put n out.old }
 {

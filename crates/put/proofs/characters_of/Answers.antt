@@ -1,0 +1,10 @@
+-- The zeros behind a key are counted on the word in which it ends: the low one, unless that holds zeros alone.
+use Rattle.std.proofs.Common.{rules}
+use Rattle.put.specs.Trailing.{characters_high, characters_low}
+use Rattle.put.proofs.characters_of.Goals as goal
+
+pub returns-then-low-eq0 : goal.returns-then-low-eq0
+returns-then-low-eq0 c = characters_high c.args.b (search rules) c.if-low-eq0.true
+
+pub returns-else-low-eq0 : goal.returns-else-low-eq0
+returns-else-low-eq0 c = characters_low c.args.b (search rules) c.if-low-eq0.false
