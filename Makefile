@@ -1,12 +1,23 @@
-# The library as others link it. `rt` proves it before it builds the archive.
+# The library as others link it, and the ratio lister. `rt` proves what each needs before it builds it.
 PREFIX ?= /usr/local
 into = $(DESTDIR)$(PREFIX)
 archive = target/staticlib/liblcf.a
+lister = target/bin/lister
+sources = crates.txt $(shell find crates -name out -prune -o \( -name '*.rt' -o -name '*.antt' \) -print)
+
+all: archive lister
 
 archive: $(archive)
 
-$(archive): crates.txt $(shell find crates -name '*.rt' -o -name '*.antt')
-	rt staticlib lcf
+lister: $(lister)
+
+$(archive): $(sources)
+	cd crates/lcf_c && rt lib
+	install -D -m 644 crates/lcf_c/out/liblcf_c.a $@
+
+$(lister): $(sources)
+	cd crates/lister && rt run >/dev/null
+	install -D -m 755 crates/lister/out/lister $@
 
 install: $(archive)
 	install -d '$(into)/include' '$(into)/lib/pkgconfig'
@@ -17,4 +28,4 @@ install: $(archive)
 uninstall:
 	rm -f '$(into)/include/lcf.h' '$(into)/lib/liblcf.a' '$(into)/lib/pkgconfig/lcf.pc'
 
-.PHONY: archive install uninstall
+.PHONY: all archive lister install uninstall

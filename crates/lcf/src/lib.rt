@@ -1,5 +1,7 @@
-// The library as C sees it: each call under a plain name. It hands its arguments on and gives the answer as a struct
-// that begins with the refusal's number; the outcome is that of the call behind it. Nothing is decided here.
+// The calls as C sees them: each hands its arguments on and gives the answer as a struct that begins with the refusal's
+// number; the outcome is that of the call behind it. Nothing is decided here. The crate lcf_c exports them.
+#![tactic(auto)]
+
 ghost use Rattle.std.specs.Prelude.{[], ◌≡◌};
 ghost use Rattle.outcomes.specs.Outcomes.{leaves};
 ghost use Rattle.outcomes.specs.Writing.{write_text, write_column};
@@ -14,7 +16,7 @@ ghost use Rattle.lcf.specs.Structs.{earlier_in};
 mod answers;
 mod keys;
 mod places;
-mod stocking;
+pub mod stocking;
 
 #[repr(C)]
 #[derive(Drop)]
@@ -77,79 +79,68 @@ pub struct Stepped {
     pub place: Place,
 }
 
-#[unsafe(no_mangle)]
-pub extern "C" fn lcf_write_text(numerator: u32, denominator: u32, out: &mut [u8]) -> Written
+pub fn lcf_write_text(numerator: u32, denominator: u32, out: &mut [u8]) -> Written
     ensures { leaves (of_written result) out.new ≡ write_text numerator denominator out.old }
 {
     answers::written(write::write_text(numerator, denominator, out))
 }
 
-#[unsafe(no_mangle)]
-pub extern "C" fn lcf_write_column(numerator: u32, denominator: u32, out: &mut [u8]) -> Written
+pub fn lcf_write_column(numerator: u32, denominator: u32, out: &mut [u8]) -> Written
     ensures { leaves (of_written result) out.new ≡ write_column numerator denominator out.old }
 {
     answers::written(write::write_column(numerator, denominator, out))
 }
 
-#[unsafe(no_mangle)]
-pub extern "C" fn lcf_read_text(key: &[u8]) -> Ratio
+pub fn lcf_read_text(key: &[u8]) -> Ratio
     ensures { leaves (of_ratio result) [] ≡ read_text key.now }
 {
     answers::text_read(read::read_text(key))
 }
 
-#[unsafe(no_mangle)]
-pub extern "C" fn lcf_read_column(column: &[u8]) -> Ratio
+pub fn lcf_read_column(column: &[u8]) -> Ratio
     ensures { leaves (of_ratio result) [] ≡ read_column column.now }
 {
     answers::column_read(read::read_column(column))
 }
 
-#[unsafe(no_mangle)]
-pub extern "C" fn lcf_column_to_text(column: &[u8], out: &mut [u8]) -> Text
+pub fn lcf_column_to_text(column: &[u8], out: &mut [u8]) -> Text
     ensures { leaves (of_text result) out.new ≡ column_to_text column.now out.old }
 {
     keys::unpacked(pack::column_to_text(column, out))
 }
 
-#[unsafe(no_mangle)]
-pub extern "C" fn lcf_text_to_column(key: &[u8], out: &mut [u8]) -> Column
+pub fn lcf_text_to_column(key: &[u8], out: &mut [u8]) -> Column
     ensures { leaves (of_column result) out.new ≡ text_to_column key.now out.old }
 {
     keys::packed(pack::text_to_column(key, out))
 }
 
-#[unsafe(no_mangle)]
-pub extern "C" fn lcf_compare(first: &[u8], second: &[u8]) -> Standing
+pub fn lcf_compare(first: &[u8], second: &[u8]) -> Standing
     ensures { leaves (of_standing result) [] ≡ compare_text first.now second.now }
 {
     keys::compared(compare::compare(first, second))
 }
 
 // 1 for the first key, 2 for the second, 0 where comparing refuses: which of the two `compare::earlier` hands back.
-#[unsafe(no_mangle)]
-pub extern "C" fn lcf_earlier(first: &[u8], second: &[u8]) -> u32
+pub fn lcf_earlier(first: &[u8], second: &[u8]) -> u32
     ensures { result ≡ earlier_in (compare_text first.now second.now) }
 {
     keys::earlier(lcf_compare(first, second))
 }
 
-#[unsafe(no_mangle)]
-pub extern "C" fn lcf_cut(key: &[u8], width: usize, out: &mut [u8]) -> Text
+pub fn lcf_cut(key: &[u8], width: usize, out: &mut [u8]) -> Text
     ensures { leaves (of_text result) out.new ≡ cut_text key.now width out.old }
 {
     keys::shortened(cut::cut(key, width, out))
 }
 
-#[unsafe(no_mangle)]
-pub extern "C" fn lcf_start(key: &[u8]) -> Started
+pub fn lcf_start(key: &[u8]) -> Started
     ensures { leaves (of_started result) [] ≡ start_text key.now }
 {
     places::started(step::start(key))
 }
 
-#[unsafe(no_mangle)]
-pub extern "C" fn lcf_step(key: &[u8], place: Place) -> Stepped
+pub fn lcf_step(key: &[u8], place: Place) -> Stepped
     ensures { of_stepped result ≡ step_text key.now place.used place.turned }
 {
     let used = place.used;

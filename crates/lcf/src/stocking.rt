@@ -7,8 +7,7 @@ ghost use Rattle.stock_structs.specs.Structs.{of_stocked, of_found, of_listed};
 
 use stock_structs::{Found, Listed, Stocked, answers};
 
-#[unsafe(no_mangle)]
-pub extern "C" fn lcf_stock_put(
+pub fn lcf_stock_put(
     table: &mut [u8],
     used: usize,
     numerator: u32,
@@ -21,8 +20,7 @@ pub extern "C" fn lcf_stock_put(
     answers::stocked(stock::put_in(table, used, numerator, denominator, quantity))
 }
 
-#[unsafe(no_mangle)]
-pub extern "C" fn lcf_stock_take(
+pub fn lcf_stock_take(
     table: &mut [u8],
     used: usize,
     numerator: u32,
@@ -35,8 +33,7 @@ pub extern "C" fn lcf_stock_take(
     answers::taken(draw::take_out(table, used, numerator, denominator, quantity))
 }
 
-#[unsafe(no_mangle)]
-pub extern "C" fn lcf_stock_find(
+pub fn lcf_stock_find(
     table: &[u8],
     used: usize,
     numerator: u32,
@@ -48,8 +45,7 @@ pub extern "C" fn lcf_stock_find(
     answers::found(lookup::find(table, used, numerator, denominator))
 }
 
-#[unsafe(no_mangle)]
-pub extern "C" fn lcf_stock_from(
+pub fn lcf_stock_from(
     table: &[u8],
     used: usize,
     numerator: u32,
