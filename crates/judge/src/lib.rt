@@ -1,4 +1,6 @@
 // Judges the memory of a stock table, and reads its rows.
+#![tactic(auto)]
+
 ghost use Rattle.std.specs.Prelude.{◌≡◌, ◌+◌, ◌*◌, ◌^◌, ◌≤◌, ◌<◌, length};
 ghost use Rattle.tables.specs.Layouts.{stock_rows};
 ghost use Rattle.tables.specs.Rows.{row_size, rows_in};
