@@ -1,5 +1,5 @@
 // A row of a stock table: a ratio, and how many there are of it.
-#[derive(Drop)]
+#[derive(Clone, Copy)]
 pub struct Row {
     pub numerator: u32,
     pub denominator: u32,
