@@ -1,4 +1,6 @@
 // Writing the key of a ratio, as text and as a column.
+#![tactic(auto)]
+
 ghost use Rattle.std.specs.Prelude.{◌≡◌, [], ◌∷◌};
 ghost use Rattle.outcomes.specs.Outcomes.{leaves};
 ghost use Rattle.outcomes.specs.Buffers.{counted};
