@@ -2,8 +2,8 @@
 use Rattle.std.specs.Prelude.{◌≡◌, refl, cond, [], ◌∷◌, eqb, get_or}
 use Rattle.outcomes.specs.Outcomes.{Answer, given, refused}
 use Rattle.outcomes.specs.Comparing.{before, same, after}
-use Rattle.scan.specs.Judging.{number_of_fault}
-use Rattle.scan.specs.Callers.{fault_of, fault_told}
+use Rattle.scan.specs.Judging.{number_of_fault, fault_of}
+use Rattle.scan.proofs.Callers.{fault_told}
 use Rattle.compare.specs.declared.Compared.{Compared}
 use Rattle.compare.specs.declared.Compared.TheVariants.{Before, Same, After, Faulty}
 

@@ -7,7 +7,7 @@ use Rattle.outcomes.specs.Outcomes.{Answer, leaves, given, refuses, called}
 use Rattle.outcomes.specs.Comparing.{standing, compare_text}
 use Rattle.outcomes.specs.Refusals.{key_refusals}
 use Rattle.scan.specs.Judging.{judgement, number_of_fault}
-use Rattle.scan.specs.Callers.{told_faulty, told-key, judged-clear}
+use Rattle.scan.proofs.Callers.{told_faulty, told-key, judged-clear}
 use Rattle.scan.specs.declared.Judged.TheVariants.{Key, Faulty}
 use Rattle.scan.specs.declared.Fault.{Fault}
 use Rattle.compare.specs.Bytes.{byte_standing}

@@ -13,7 +13,7 @@ use Rattle.outcomes.proofs.TextKeys.{clear-canonical}
 use Rattle.outcomes.specs.Cutting.{cut_text}
 use Rattle.outcomes.proofs.Cuts.{inside, beyond}
 use Rattle.scan.specs.Judging.{judgement, number_of_fault}
-use Rattle.scan.specs.Callers.{told_faulty, told-key, judged-clear}
+use Rattle.scan.proofs.Callers.{told_faulty, told-key, judged-clear}
 use Rattle.scan.specs.declared.Judged.TheVariants.{Key, Faulty}
 use Rattle.scan.specs.declared.Fault.{Fault}
 

@@ -2,8 +2,8 @@
 -- that these tell the answer.
 use Rattle.std.specs.Prelude.{◌≡◌, refl, cond, [], ◌∷◌, eqb, get_or}
 use Rattle.outcomes.specs.Outcomes.{Answer, given, refused}
-use Rattle.scan.specs.Judging.{number_of_fault}
-use Rattle.scan.specs.Callers.{fault_of, fault_told}
+use Rattle.scan.specs.Judging.{number_of_fault, fault_of}
+use Rattle.scan.proofs.Callers.{fault_told}
 use Rattle.pack.specs.declared.Unpacked.{Unpacked}
 use Rattle.pack.specs.declared.Unpacked.TheVariants as unpacked
 use Rattle.pack.specs.declared.Packed.{Packed}

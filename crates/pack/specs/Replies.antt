@@ -23,7 +23,7 @@ use Rattle.outcomes.proofs.Buffers.{put-called}
 use Rattle.outcomes.specs.Packing.{column_to_text, text_to_column}
 use Rattle.put.specs.Putting.{text_put, column_put}
 use Rattle.scan.specs.Judging.{judgement, number_of_fault}
-use Rattle.scan.specs.Callers.{told_faulty, told-key}
+use Rattle.scan.proofs.Callers.{told_faulty, told-key}
 use Rattle.scan.specs.declared.Judged.TheVariants.{Key, Faulty}
 use Rattle.scan.specs.declared.Fault.{Fault}
 

@@ -1,8 +1,8 @@
 -- The scope's number and values for each answer of reading; and that these tell the answer.
 use Rattle.std.specs.Prelude.{◌≡◌, refl, cond, [], ◌∷◌, eqb, get_or}
 use Rattle.outcomes.specs.Outcomes.{Answer, given, refused}
-use Rattle.scan.specs.Judging.{number_of_fault}
-use Rattle.scan.specs.Callers.{fault_of, fault_told}
+use Rattle.scan.specs.Judging.{number_of_fault, fault_of}
+use Rattle.scan.proofs.Callers.{fault_told}
 use Rattle.read.specs.declared.ReadText.{ReadText}
 use Rattle.read.specs.declared.ReadText.TheVariants as text
 use Rattle.read.specs.declared.ReadColumn.{ReadColumn}

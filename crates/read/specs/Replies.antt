@@ -19,7 +19,7 @@ use Rattle.outcomes.specs.Outcomes.{Outcome, gives, refuses, called}
 use Rattle.outcomes.specs.Reading.{terms, read_text, read_column}
 use Rattle.outcomes.specs.Refusals.{out_of_range}
 use Rattle.scan.specs.Judging.{judgement, number_of_fault}
-use Rattle.scan.specs.Callers.{told_faulty, told-key}
+use Rattle.scan.proofs.Callers.{told_faulty, told-key}
 use Rattle.scan.specs.declared.Judged.TheVariants.{Key, Faulty}
 use Rattle.scan.specs.declared.Fault.{Fault}
 use Rattle.read.specs.declared.find.Found.{Found}

@@ -14,7 +14,7 @@ use Rattle.keys.specs.Size.{limit}
 use Rattle.keys.specs.Places.{left_at, quotients_at}
 use Rattle.keys.proofs.Places.{quotients-end, quotients-next, turned_within}
 use Rattle.scan.specs.Taking.{taken_from}
-use Rattle.scan.specs.Told.{Goes, told, taken_size}
+use Rattle.scan.proofs.Told.{Goes, told, taken_size}
 use Rattle.scan.specs.declared.Taken.TheVariants.{Quotient, Long, End}
 use Rattle.read.specs.Finding.{ratio_in, is_over, limited, found_from, Finds}
 use Rattle.read.specs.Next.{term_over, not_over, none_over, some-within}

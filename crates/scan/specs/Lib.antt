@@ -1,10 +1,6 @@
 pub mod Judging
 pub mod Taking
-pub mod Told
 pub mod Verdicts
 pub mod Runs
 pub mod Windows
-pub mod Begun
-pub mod Ended
 pub mod Characters
-pub mod Callers

@@ -1,5 +1,7 @@
 // Judging a text key, and reading one word from a place. Both report more than most callers hand on: where the judge
 // stopped, and how many characters a word took.
+#![tactic(auto)]
+
 ghost use Rattle.std.specs.Prelude.{◌≡◌};
 ghost use Rattle.bits.specs.Texts.{bits_of_text};
 ghost use Rattle.blocks.specs.Blocks.{bits_of_block};

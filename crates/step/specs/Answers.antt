@@ -7,7 +7,8 @@ use Rattle.outcomes.specs.Outcomes.{Outcome, Answer, leaves, given, refused}
 use Rattle.outcomes.specs.Stepping.{place_of, step_text}
 use Rattle.scan.specs.Judging.{number_of_fault}
 use Rattle.scan.specs.Taking.{is_turned}
-use Rattle.scan.specs.Callers.{fault_of, fault_told}
+use Rattle.scan.specs.Judging.{fault_of}
+use Rattle.scan.proofs.Callers.{fault_told}
 use Rattle.scan.specs.declared.Kind.{Kind}
 use Rattle.scan.specs.declared.Kind.TheVariants.{Word, Turned}
 use Rattle.scan.specs.declared.Place.{Place}

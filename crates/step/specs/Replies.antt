@@ -16,8 +16,8 @@ use Rattle.outcomes.proofs.Cuts.{inside, beyond}
 use Rattle.outcomes.specs.Stepping.{place_of, start_text, quotient_at, found, place_after, step_text}
 use Rattle.scan.specs.Judging.{judgement, number_of_fault}
 use Rattle.scan.specs.Taking.{taken_from}
-use Rattle.scan.specs.Told.{Told, told}
-use Rattle.scan.specs.Callers.{told_faulty, told-key, judged-clear}
+use Rattle.scan.proofs.Told.{Told, told}
+use Rattle.scan.proofs.Callers.{told_faulty, told-key, judged-clear}
 use Rattle.scan.specs.declared.Fault.{Fault}
 use Rattle.scan.specs.declared.Judged.TheVariants.{Key, Faulty}
 use Rattle.scan.specs.declared.Taken.{Taken}

@@ -6,7 +6,7 @@ use borrow.Author.Rules.{rules}
 use Rattle.outcomes.specs.Stepping.{step_text}
 use Rattle.scan.specs.Judging.{judgement}
 use Rattle.scan.specs.Taking.{is_turned}
-use Rattle.scan.specs.Told.{taken_size}
+use Rattle.scan.proofs.Told.{taken_size}
 use Rattle.scan.specs.declared.Judged.TheVariants.{Key}
 use Rattle.step.specs.Replies.{taken_as, step_faulty, step-outside, step-taken}
 use Rattle.step.proofs.step.Statement.{statement}

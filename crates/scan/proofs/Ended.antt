@@ -10,9 +10,10 @@ use Rattle.bits.proofs.Sums.{number-first}
 use Rattle.families.specs.Families.{ended}
 use Rattle.families.proofs.Digits.{number_low}
 use Rattle.scan.specs.declared.Taken.TheVariants.{Long, End}
-use Rattle.scan.specs.Taking.{taken_from, taken-ended}
+use Rattle.scan.specs.Taking.{taken_from}
+use Rattle.scan.proofs.Taking.{taken-ended}
 use Rattle.scan.specs.Runs.{Counted}
-use Rattle.scan.specs.Begun.{taken_long}
+use Rattle.scan.proofs.Begun.{taken_long}
 
 first_turned : (n : ℕ) (s : Bits) → first_bits true n (turn s) ≡ turn (first_bits false n s)
 first_turned zero s = refl

@@ -15,7 +15,8 @@ use Rattle.families.proofs.Digits.{number-digits, number_high}
 use Rattle.families.proofs.Measured.{digits_low, word-length, word-number}
 use Rattle.families.proofs.Complete.{word_complete}
 use Rattle.scan.specs.declared.Taken.TheVariants.{Quotient, Long}
-use Rattle.scan.specs.Taking.{taken_from, taken_many, taken_few}
+use Rattle.scan.specs.Taking.{taken_from}
+use Rattle.scan.proofs.Taking.{taken_many, taken_few}
 use Rattle.scan.specs.Runs.{Counted, number_read, Front, counted_many, run-counted, word-read}
 
 -- the first bits of a string that begins with p, as a number

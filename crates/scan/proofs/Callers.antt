@@ -1,6 +1,6 @@
 -- What a judgement tells a call that judges a text key first: its outcome where there is a fault, and else that the
 -- rest of its refusals decide.
-use Rattle.std.specs.Prelude.{◌≡◌, refl, Bool, true, false, cond, List, [], eqb, length}
+use Rattle.std.specs.Prelude.{◌≡◌, refl, Bool, true, false, cond, List, [], length}
 use Rattle.std.proofs.Common.{sym, ltb-false}
 use Prim.Native.Nat.{ℕ, ◌-◌, ◌≤◌}
 use Rattle.outcomes.specs.Outcomes.{Outcome, Refusal, refuses, called}
@@ -52,10 +52,6 @@ module _ (k : List ℕ) (more : List Refusal) (values before after : List ℕ) w
 pub judged-clear : (k : List ℕ) → Key ≡ judgement k → Clear (key_refusals k [])
 judged-clear k e =
     (gives-clear (key_refusals k []) [] [] [] refl [] [] (sym (told-key k [] [] [] [] e).1)).0
-
--- the fault that a number stands for
-abbrev pub fault_of : ℕ → Fault
-fault_of n = cond (eqb n 3) Empty (cond (eqb n 4) Long (cond (eqb n 5) Character LastZero))
 
 -- an answer that each fault's number tells
 pub fault_told : {A : Type 0} (answer_of : ℕ → A) (faulty : Fault → A) → answer_of 3 ≡ faulty Empty

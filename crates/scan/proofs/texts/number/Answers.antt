@@ -1,0 +1,25 @@
+-- There is room for one more digit, since the run is at most 31.
+use Rattle.std.proofs.Common.{◌<◌, ◌^◌, arith}
+use Rattle.load.specs.Gathering.{byte-small}
+use Rattle.scan.specs.Characters.{bits_read}
+use Rattle.scan.proofs.Characters.{digits-more, digits_fit}
+use Rattle.scan.proofs.texts.number.Goals as goal
+
+pub overflow_mul-v : goal.overflow_mul-v
+overflow_mul-v c =
+    let s = bits_read c.args.k.now c.args.turned in
+    let fits : c.loop-i.v < 2 ^ 31 =
+    digits_fit c.args.turned s c.args.run c.loop-i.i c.loop-i.invariant.1 (omega arith) in
+    omega arith
+
+pub overflow_add-v : goal.overflow_add-v
+overflow_add-v c =
+    let s = bits_read c.args.k.now c.args.turned in
+    let fits : c.loop-i.v < 2 ^ 31 =
+    digits_fit c.args.turned s c.args.run c.loop-i.i c.loop-i.invariant.1 (omega arith) in
+    omega (arith, byte-small c.bit.result)
+
+pub loop-i-preserved : goal.loop-i-preserved
+loop-i-preserved c =
+    let s = bits_read c.args.k.now c.args.turned in
+    (omega arith, digits-more c.args.turned s c.args.run c.loop-i.i c.loop-i.invariant.1 _ (omega arith) c.bit.ensures)
