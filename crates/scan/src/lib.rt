@@ -14,7 +14,7 @@ mod texts;
 mod words;
 
 // The faults of a text key, in the order in which they are judged: 3, 4, 5, 6.
-#[derive(Drop)]
+#[derive(Clone, Copy)]
 pub enum Fault {
     Empty,
     Long,
@@ -29,14 +29,14 @@ pub enum Judged {
     Faulty { fault: Fault, at: usize },
 }
 
-#[derive(Drop)]
+#[derive(Clone, Copy)]
 pub enum Kind {
     Word,
     Turned,
 }
 
 // A place in a key: the characters used, and the kind of word due there.
-#[derive(Drop)]
+#[derive(Clone, Copy)]
 pub struct Place {
     pub used: usize,
     pub due: Kind,
