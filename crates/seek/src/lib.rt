@@ -1,4 +1,6 @@
 // Where a ratio stands in a stock table.
+#![tactic(auto)]
+
 ghost use Rattle.std.specs.Prelude.{◌≡◌};
 ghost use Rattle.seek.specs.Seeking.{same_terms, sought};
 
