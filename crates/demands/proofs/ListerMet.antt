@@ -11,7 +11,7 @@ use Rattle.lines.proofs.Splitting.{line_ended, line_last}
 use Rattle.outcomes.specs.Typing.{numerator_of, denominator_of}
 use Rattle.outcomes.proofs.Shapes.{ratio-accepted, accepted-ratio}
 use Rattle.outcomes.specs.Listing.{entry_of, accepted_line, refused_line, line_answer, listing}
-use Rattle.fields.specs.TypedLines.{field_typed}
+use Rattle.fields.proofs.TypedLines.{field_typed}
 use Rattle.fields.specs.declared.Field.{Field}
 use Rattle.list.specs.Ratios.{ratios}
 use Rattle.list.specs.Lines.{listing-run}

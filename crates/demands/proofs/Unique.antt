@@ -14,7 +14,8 @@ use Rattle.outcomes.specs.Cutting.{cut_text}
 use Rattle.outcomes.specs.Stepping.{start_text, step_text}
 use Rattle.outcomes.specs.Stocking.{put_in, take_out, find, list_from, stock_call}
 use Rattle.tables.specs.Layouts.{stock_rows}
-use Rattle.reduce.specs.Answers.{reduced_as, reduced_of, reduced_told}
+use Rattle.reduce.specs.Answers.{reduced_as, reduced_of}
+use Rattle.reduce.proofs.Told.{reduced_told}
 use Rattle.write.specs.Answers.{written_as, written_of, written-told}
 use Rattle.read.specs.Answers.{text_read_as, text_read_of, text_read-told, column_read_as, column_read_of, column_read-told}
 use Rattle.pack.specs.Answers.{unpacked_as, unpacked_of, unpacked-told, packed_as, packed_of, packed-told}

@@ -1,5 +1,7 @@
 // A ratio as it is typed, digits, a slash and digits, fed byte by byte. Whatever was fed, it takes the same few numbers
 // to hold: a numeral of more than ten digits makes the whole malformed, and one over the limit stops growing.
+#![tactic(auto)]
+
 ghost use Rattle.std.specs.Prelude.{◌≡◌};
 ghost use Rattle.fields.specs.Fields.{grown, fed_digit, fed_slash, feed_of, is_blank, typed_of};
 

@@ -3,7 +3,7 @@ use Rattle.std.specs.Prelude.{◌≡◌, refl, Bool, true, false, cond, not, ℕ
 use Rattle.std.proofs.Common.{◌∙◌}
 use mathlib.Core.List.{List, [], ◌∷◌, foldl}
 use Rattle.fields.specs.Fields.{fed_by}
-use Rattle.fields.specs.TypedLines.{line_typed}
+use Rattle.fields.proofs.TypedLines.{line_typed}
 use Rattle.fields.specs.declared.Field.TheVariants.{Empty}
 use Rattle.fields.specs.declared.Typed.TheVariants.{Ratio, Malformed, TooLarge}
 use Rattle.lines.specs.Lines.{answered}

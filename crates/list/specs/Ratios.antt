@@ -4,7 +4,7 @@ use mathlib.Mathlib.Data.Bool.Basic.{or-eq-false-eq-eq-false-and-eq-false as nei
 use Rattle.std.proofs.Common.{arith, ltb-false}
 use Rattle.std.proofs.lemmas.Bool.{eqb-false}
 use Rattle.fields.specs.Fields.{fed_by, is_blank, typed_of}
-use Rattle.fields.specs.TypedLines.{chosen, fed_not_blank}
+use Rattle.fields.proofs.TypedLines.{chosen, fed_not_blank}
 use Rattle.fields.specs.declared.Field.{Field}
 use Rattle.fields.specs.declared.Field.TheVariants.{Empty, First, Second, Bad}
 use Rattle.fields.specs.declared.Typed.{Typed}

@@ -1,4 +1,6 @@
 // Greatest common divisor and lowest terms.
+#![tactic(auto)]
+
 ghost use Rattle.std.specs.Prelude.{◌≡◌, []};
 ghost use Rattle.fractions.specs.Fractions.{gcd};
 ghost use Rattle.outcomes.specs.Outcomes.{leaves};

@@ -1,4 +1,6 @@
 // Rows inserted and removed in the memory of a stock table. Where memory has no such row, nothing is done.
+#![tactic(auto)]
+
 ghost use Rattle.std.specs.Prelude.{◌≡◌, ◌+◌, ◌-◌, ◌≤◌, length, take, drop};
 ghost use Rattle.bits.specs.Texts.{pasted};
 ghost use Rattle.tables.specs.Layouts.{stock_rows};
