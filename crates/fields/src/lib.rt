@@ -6,7 +6,7 @@ ghost use Rattle.std.specs.Prelude.{◌≡◌};
 ghost use Rattle.fields.specs.Fields.{grown, fed_digit, fed_slash, feed_of, is_blank, typed_of};
 
 // What was fed so far: nothing; digits; digits, a slash and perhaps digits; or what no ratio begins with.
-#[derive(Drop)]
+#[derive(Clone, Copy)]
 pub enum Field {
     Empty,
     First { digits: u32, value: u64 },
