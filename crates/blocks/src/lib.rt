@@ -1,3 +1,5 @@
+#![tactic(auto)]
+
 // A key's 96 bits in two machine words: its first 64 characters in `high`, top bit first, and the next 32 in `low`.
 #[derive(Clone, Copy)]
 pub struct Block {

@@ -1,1 +1,2 @@
-// A theory crate: its definitions and theorems stand in specs/.
+// The page of promises in specs/; in proofs/ the term that meets it, uniqueness of every outcome, the table.
+#![tactic(auto)]

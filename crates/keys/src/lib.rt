@@ -1,1 +1,2 @@
-// A theory crate: its definitions and theorems stand in specs/.
+// A theory crate: its definitions stand in specs/, its theorems in proofs/.
+#![tactic(auto)]

@@ -1,1 +1,2 @@
-// What each call gives and leaves, for every input: definitions and theorems alone, in specs/.
+// What each call gives and leaves, for every input: definitions in specs/, theorems in proofs/.
+#![tactic(auto)]

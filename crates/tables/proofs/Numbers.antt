@@ -1,5 +1,5 @@
 -- Numbers and rows in bytes, there and back.
-use Rattle.std.specs.Prelude.{◌≡◌, refl, List, [], ◌∷◌, ◌++◌, ℕ, zero, suc, ◌+◌, ◌*◌, ◌/◌, ◌^◌, ◌≤◌, ◌<◌, ◌-◌, length, take, drop}
+use Rattle.std.specs.Prelude.{◌≡◌, refl, List, [], ◌∷◌, ◌++◌, ℕ, zero, suc, ◌+◌, ◌*◌, ◌/◌, ◌^◌, ◌≤◌, ◌<◌, length, take, drop}
 use Rattle.std.proofs.Common.{sym, ◌∙◌, ap, pow-suc, div-add-mod', div-lt_iff_lt-mul, arith, lit<, length-append, length-drop, length-take-le, take-add, drop-drop, get_or-drop}
 use Rattle.std.proofs.Math.Arith.{digits_div, digits_mod}
 use Rattle.bits.specs.Texts.{Bytes}

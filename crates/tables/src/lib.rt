@@ -1,3 +1,5 @@
+#![tactic(auto)]
+
 // A row of a stock table: a ratio, and how many there are of it.
 #[derive(Clone, Copy)]
 pub struct Row {
