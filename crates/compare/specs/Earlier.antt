@@ -1,5 +1,5 @@
--- What the earlier of two lent keys is: one of the two references themselves, or an empty part of the first. The ghost
--- name of that part is a new one, of which nothing is known; its address and its characters are known.
+-- What the earlier of two lent keys is: one of the two references themselves, or an empty part of the first, whose
+-- address and characters are known.
 use Rattle.std.specs.Prelude.{◌≡◌, refl, ◌⊎◌, List, [], ◌∷◌, ℕ, ◌≤◌, get_or}
 use Rattle.std.proofs.Common.{sym, ◌∙◌, ap, inl, inr, arith}
 use Rattle.std.specs.Borrow.{Bor}
@@ -42,9 +42,9 @@ module _ (j k : Bor (List ℕ)) (a : Answer) (told : leaves a [] ≡ compare_tex
     if_refused = λ n. absurd (n (sym number ∙ z));
   }
 
-  pub none_earlier : (name : ℕ) → get_or a.values 0 0 ≡ 0
-      → Earlier j k (record { ref_ptr = j.ptr; ghost_name = name; now = [] })
-  none_earlier name v = record {
+  pub none_earlier : get_or a.values 0 0 ≡ 0
+      → Earlier j k (record { ref_ptr = j.ref_ptr; now = [] })
+  none_earlier v = record {
     if_before = λ e. absurd (omega (arith, value before e));
     if_same = λ e. absurd (omega (arith, value same e));
     if_after = λ e. absurd (omega (arith, value after e));

@@ -1,5 +1,3 @@
 pub mod Answers
 pub mod Bytes
-pub mod KeyOrder
-pub mod Replies
 pub mod Earlier

@@ -1,4 +1,6 @@
 // How two text keys stand, and the earlier of two.
+#![tactic(auto)]
+
 ghost use Rattle.std.specs.Prelude.{[], ◌∷◌, ◌≡◌};
 ghost use Rattle.outcomes.specs.Outcomes.{leaves, given};
 ghost use Rattle.outcomes.specs.Comparing.{compare_text};

@@ -11,7 +11,7 @@ use Rattle.scan.proofs.Callers.{told_faulty, told-key, judged-clear}
 use Rattle.scan.specs.declared.Judged.TheVariants.{Key, Faulty}
 use Rattle.scan.specs.declared.Fault.{Fault}
 use Rattle.compare.specs.Bytes.{byte_standing}
-use Rattle.compare.specs.KeyOrder.{byte_standing_lem}
+use Rattle.compare.proofs.KeyOrder.{byte_standing_lem}
 
 module _ (j k : List ℕ) where
   abbrev stands : List ℕ
