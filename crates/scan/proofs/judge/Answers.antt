@@ -25,16 +25,16 @@ pub returns-then-k-last-eq48 : goal.returns-then-k-last-eq48
 returns-then-k-last-eq48 c =
     let k = c.args.k.now in
     judged_open k (cleared k c.if-k-eq0.false c.if-k-gt96.false c.first_strange-at.ensures c.if-at-k.false)
-    c.if-k-gt1.true 0 c.if-k-last-eq48.true
+    (omega arith) 0 c.if-k-last-eq48.true
 
 pub returns-else-k-last-eq48 : goal.returns-else-k-last-eq48
 returns-else-k-last-eq48 c =
     let k = c.args.k.now in
     judged-key k (cleared k c.if-k-eq0.false c.if-k-gt96.false c.first_strange-at.ensures c.if-at-k.false)
-    c.if-k-gt1.true 0 c.if-k-last-eq48.false
+    (omega arith) 0 c.if-k-last-eq48.false
 
 pub returns-else-k-gt1 : goal.returns-else-k-gt1
 returns-else-k-gt1 c =
     let k = c.args.k.now in
     judged_single k (cleared k c.if-k-eq0.false c.if-k-gt96.false c.first_strange-at.ensures c.if-at-k.false)
-    c.if-k-gt1.false
+    (omega arith)
