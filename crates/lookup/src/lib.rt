@@ -1,4 +1,6 @@
 // Finding a ratio in a stock table, and listing from a ratio.
+#![tactic(auto)]
+
 ghost use Rattle.std.specs.Prelude.{◌≡◌};
 ghost use Rattle.tables.specs.Layouts.{stock_rows};
 ghost use Rattle.outcomes.specs.Outcomes.{leaves};
