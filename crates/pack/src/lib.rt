@@ -1,4 +1,6 @@
 // Changing between a column and a text key.
+#![tactic(auto)]
+
 ghost use Rattle.std.specs.Prelude.{◌≡◌};
 ghost use Rattle.outcomes.specs.Outcomes.{leaves};
 ghost use Rattle.outcomes.specs.Packing.{column_to_text, text_to_column};
