@@ -1,5 +1,7 @@
 // The ratio lister's work: a stretch of input to a stretch of output. What stands between two calls is the field of the
 // line that isn't ended yet, so the input may be cut into stretches anywhere, and a line may have any length.
+#![tactic(auto)]
+
 ghost use Rattle.lines.specs.Machines.{lacking};
 ghost use Rattle.list.specs.Ratios.{ratios};
 ghost use Rattle.list.specs.Listing.{Lists};
