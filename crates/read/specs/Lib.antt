@@ -1,6 +1,2 @@
-pub mod Answers
 pub mod Finding
-pub mod Next
-pub mod Steps
-pub mod Range
-pub mod Replies
+pub mod Answers

@@ -18,6 +18,7 @@ pub enum Found {
 }
 
 // The next convergent, or 0 where it is over the limit. Its terms fit, whatever the three numbers are.
+#[tactic(auto, using(crate::proofs::Next::limited_over, crate::proofs::Next::limited_within))]
 fn next(a: u32, u: u64, v: u64) -> u64
     ensures { result ≡ limited (convergent a (ratio_in u) (ratio_in v)) }
 {

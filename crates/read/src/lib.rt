@@ -1,4 +1,6 @@
 // Reading a key, from text or from a column.
+#![tactic(auto)]
+
 ghost use Rattle.std.specs.Prelude.{[], ◌≡◌};
 ghost use Rattle.outcomes.specs.Outcomes.{leaves};
 ghost use Rattle.outcomes.specs.Reading.{read_text, read_column};

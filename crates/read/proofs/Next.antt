@@ -40,9 +40,9 @@ module _ (w : Ratio) where
   unfolding limited
   limited_over h = rw (term_over w h) refl
 
-  pub limited-within : w.num ≤ limit → w.den ≤ limit → packed w ≡ limited w
+  pub limited_within : w.num ≤ limit → w.den ≤ limit → packed w ≡ limited w
   unfolding limited
-  limited-within h k = rw (not_over w h k) refl
+  limited_within h k = rw (not_over w h k) refl
 
 -- n is w or, if that is over the limit, 0
 module _ {n : ℕ} (w : Ratio) (e : n ≡ limited w) where

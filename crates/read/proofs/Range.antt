@@ -17,7 +17,7 @@ use Rattle.keys.proofs.Reading.{read-spells}
 use Rattle.keys.proofs.Back.{value_denominator}
 use Rattle.read.specs.declared.find.Found.TheVariants as found
 use Rattle.read.specs.Finding.{packed, value_in, is_over, found_from, Finds, found_in, found_of}
-use Rattle.read.specs.Next.{not_over, within, ratio-packed}
+use Rattle.read.proofs.Next.{not_over, within, ratio-packed}
 
 -- where the last convergent isn't over the limit, none is, and it is found
 found-within : (z : Bool) (l : List ℕ) (used : ℕ) (u v : Ratio) → Quotients z l → is_over (forward u v l) ≡ false

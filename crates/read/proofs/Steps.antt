@@ -17,7 +17,7 @@ use Rattle.scan.specs.Taking.{taken_from}
 use Rattle.scan.proofs.Told.{Goes, told, taken_size}
 use Rattle.scan.specs.declared.Taken.TheVariants.{Quotient, Long, End}
 use Rattle.read.specs.Finding.{ratio_in, is_over, limited, found_from, Finds}
-use Rattle.read.specs.Next.{term_over, not_over, none_over, some-within}
+use Rattle.read.proofs.Next.{term_over, not_over, none_over, some-within}
 
 -- a quotient over the limit makes a convergent that is
 over_long : (a : ℕ) (u v : Ratio) → 1 ≤ u.num + u.den → limit < a → is_over (convergent a u v) ≡ true

@@ -1,0 +1,4 @@
+pub mod Next
+pub mod Range
+pub mod Steps
+pub mod Replies

@@ -1,0 +1,78 @@
+-- Each way out is one step of reading, by `proofs/Steps.antt`. A word takes a character at least, and a turned word
+-- begins within the 96, so the measures fall.
+use Rattle.std.proofs.Common.{true, false, ◌<◌, arith}
+use Rattle.blocks.proofs.Laws.{block-length}
+use Rattle.read.specs.Finding.{bits_in}
+use Rattle.read.proofs.Steps.{found-end, found_long, Makes, word_size, makes-within, found_over, found_on}
+use Rattle.read.proofs.find.+find_turned_find_word.Goals as goal
+
+pub find_turned-returns-then-w-eq0 : goal.find_turned-returns-then-w-eq0
+find_turned-returns-then-w-eq0 t c =
+    found_over (record { taken = c.in-Quotient.ensures; made = c.next-w.ensures }) (omega arith) c.if-w-eq0.true
+    (omega arith)
+
+pub find_turned-overflow_add-used : goal.find_turned-overflow_add-used
+find_turned-overflow_add-used t c =
+    let b = c.args in
+    let w = c.in-Quotient in
+    let g : Makes (bits_in b.high b.low) b.used true b.u b.v w.value w.characters c.next-w.result =
+    record { taken = w.ensures; made = c.next-w.ensures } in
+    let (l, h) = word_size g in
+    record { fits = omega arith }
+
+pub find_turned-find_word-requires : goal.find_turned-find_word-requires
+find_turned-find_word-requires t c =
+    let b = c.args in
+    let w = c.in-Quotient in
+    let g : Makes (bits_in b.high b.low) b.used true b.u b.v w.value w.characters c.next-w.result =
+    record { taken = w.ensures; made = c.next-w.ensures } in
+    let (l, h) = word_size g in
+    let within : b.used < 96 = rw (block-length _) at (makes-within g) in
+    (omega arith, record { few = omega arith; some = omega arith })
+
+pub find_turned-returns-else-w-eq0 : goal.find_turned-returns-else-w-eq0
+find_turned-returns-else-w-eq0 t c =
+    found_on (record { taken = c.in-Quotient.ensures; made = c.next-w.ensures }) (omega arith) c.find_word.ensures
+
+pub find_turned-returns-in-Long : goal.find_turned-returns-in-Long
+find_turned-returns-in-Long t c =
+    found_long c.in-Long.ensures (omega arith) (omega arith)
+
+pub find_turned-returns-in-End : goal.find_turned-returns-in-End
+find_turned-returns-in-End t c =
+    found-end c.in-End.ensures (omega arith)
+
+pub find_word-returns-then-w-eq0 : goal.find_word-returns-then-w-eq0
+find_word-returns-then-w-eq0 t c =
+    found_over (record { taken = c.in-Quotient.ensures; made = c.next-w.ensures }) (omega arith) c.if-w-eq0.true
+    (omega arith)
+
+pub find_word-overflow_add-used : goal.find_word-overflow_add-used
+find_word-overflow_add-used t c =
+    let b = c.args in
+    let w = c.in-Quotient in
+    let g : Makes (bits_in b.high b.low) b.used false b.u b.v w.value w.characters c.next-w.result =
+    record { taken = w.ensures; made = c.next-w.ensures } in
+    let (l, h) = word_size g in
+    record { fits = omega arith }
+
+pub find_word-find_turned-requires : goal.find_word-find_turned-requires
+find_word-find_turned-requires t c =
+    let b = c.args in
+    let w = c.in-Quotient in
+    let g : Makes (bits_in b.high b.low) b.used false b.u b.v w.value w.characters c.next-w.result =
+    record { taken = w.ensures; made = c.next-w.ensures } in
+    let (l, h) = word_size g in
+    (omega arith, record { few = omega arith; some = omega arith })
+
+pub find_word-returns-else-w-eq0 : goal.find_word-returns-else-w-eq0
+find_word-returns-else-w-eq0 t c =
+    found_on (record { taken = c.in-Quotient.ensures; made = c.next-w.ensures }) (omega arith) c.find_turned.ensures
+
+pub find_word-returns-in-Long : goal.find_word-returns-in-Long
+find_word-returns-in-Long t c =
+    found_long c.in-Long.ensures (omega arith) (omega arith)
+
+pub find_word-returns-in-End : goal.find_word-returns-in-End
+find_word-returns-in-End t c =
+    found-end c.in-End.ensures (omega arith)
