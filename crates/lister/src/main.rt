@@ -3,6 +3,7 @@
 #![tactic(auto)]
 
 ghost use Rattle.std.specs.Prelude.{◌+◌, ◌≤◌, ◌<◌, length};
+ghost use Rattle.std.specs.Io.{ReadsAtMost};
 ghost use Rattle.lister.specs.Buffers.{HasRoom, IsWithin, ListsFrom};
 
 use fields::Field;
@@ -110,7 +111,9 @@ fn end<W: Write>(to: &mut W, field: Field, held: usize, out: &mut [u8]) -> Resul
 }
 
 // How many bytes a read put at the front of the input buffer: none at the end of the input.
-fn get_part<R: Read>(from: &mut R, input: &mut [u8]) -> Result<usize, Stopped> {
+fn get_part<R: Read>(from: &mut R, input: &mut [u8]) -> Result<usize, Stopped>
+    ensures { ReadsAtMost result input.new }
+{
     match from.read(input) {
         Ok(n) => Ok(n),
         Err(e) => Err(Stopped::Reading(e)),
