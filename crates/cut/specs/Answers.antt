@@ -1,8 +1,7 @@
--- The scope's number and values for each answer of cutting; and that these tell the answer.
-use Rattle.std.specs.Prelude.{◌≡◌, refl, cond, [], ◌∷◌, eqb, get_or}
+-- The scope's number and values for each answer of cutting, and the answer that they tell.
+use Rattle.std.specs.Prelude.{cond, [], ◌∷◌, eqb, get_or}
 use Rattle.outcomes.specs.Outcomes.{Answer, given, refused}
 use Rattle.scan.specs.Judging.{number_of_fault, fault_of}
-use Rattle.scan.proofs.Callers.{fault_told}
 use Rattle.cut.specs.declared.Shortened.{Shortened}
 use Rattle.cut.specs.declared.Shortened.TheVariants.{Key, Faulty, WrongWidth, ShortBuffer}
 
@@ -17,9 +16,3 @@ shortened_of a =
     let n = a.refusal in
     cond (eqb n 0) (Key (get_or a.values 0 0))
     (cond (eqb n 8) WrongWidth (cond (eqb n 2) ShortBuffer (Faulty (fault_of n))))
-
-pub shortened-told : (r : Shortened) → shortened_of (shortened_as r) ≡ r
-shortened-told (Key characters) = refl
-shortened-told (Faulty f) = fault_told (λ n. shortened_of (refused n 1)) Faulty refl refl refl refl f
-shortened-told WrongWidth = refl
-shortened-told ShortBuffer = refl

@@ -1,4 +1,6 @@
 // Cutting a text key to a width.
+#![tactic(auto)]
+
 ghost use Rattle.std.specs.Prelude.{◌≡◌, ◌≤◌, length, take};
 ghost use Rattle.bits.specs.Texts.{bits_of_text, in_front};
 ghost use Rattle.keys.specs.Keys.{cut_to};
@@ -35,8 +37,8 @@ fn kept(k: &[u8], n: usize) -> usize
 
 // A few characters, one at a time.
 fn copy_few(k: &[u8], n: usize, out: &mut [u8])
-    requires n_in_bounds { n ≤ length k.now }
-    requires* n_bound { do ⌜ n ≤ (← ⟦out.len()⟧) ⌝ }
+    requires key { n ≤ length k.now }
+    requires room { n ≤ length out.old }
     ensures { out.new ≡ in_front (take n k.now) out.old }
 {
     let mut i = 0;
@@ -48,8 +50,8 @@ fn copy_few(k: &[u8], n: usize, out: &mut [u8])
 
 // Four loads in a row, then four stores in a row: the compiler makes one of each.
 fn copy_four(k: &[u8], out: &mut [u8])
-    requires in_bounds { 4 ≤ length k.now }
-    requires* do_bound { do ⌜ 4 ≤ (← ⟦out.len()⟧) ⌝ }
+    requires key { 4 ≤ length k.now }
+    requires room { 4 ≤ length out.old }
     ensures { out.new ≡ in_front (take 4 k.now) out.old }
 {
     let p = k[0];
@@ -64,8 +66,8 @@ fn copy_four(k: &[u8], out: &mut [u8])
 
 // The same for eight characters.
 fn copy_eight(k: &[u8], out: &mut [u8])
-    requires in_bounds { 8 ≤ length k.now }
-    requires* do_bound { do ⌜ 8 ≤ (← ⟦out.len()⟧) ⌝ }
+    requires key { 8 ≤ length k.now }
+    requires room { 8 ≤ length out.old }
     ensures { out.new ≡ in_front (take 8 k.now) out.old }
 {
     let a = k[0];
@@ -89,8 +91,8 @@ fn copy_eight(k: &[u8], out: &mut [u8])
 // The first n characters of k at the front of out, in groups of eight, or two of four where eight are too many. The
 // last group may overlap the one before it.
 fn copy(k: &[u8], n: usize, out: &mut [u8])
-    requires n_in_bounds { n ≤ length k.now }
-    requires* n_bound { do ⌜ n ≤ (← ⟦out.len()⟧) ⌝ }
+    requires key { n ≤ length k.now }
+    requires room { n ≤ length out.old }
     ensures { out.new ≡ in_front (take n k.now) out.old }
 {
     if n < 4 {

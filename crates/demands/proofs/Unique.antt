@@ -21,15 +21,16 @@ use Rattle.read.specs.Answers.{text_read_as, text_read_of, text_read-told, colum
 use Rattle.pack.specs.Answers.{unpacked_as, unpacked_of, unpacked-told, packed_as, packed_of, packed-told}
 use Rattle.step.specs.declared.Stepped.{Stepped}
 use Rattle.compare.specs.Answers.{compared_as, compared_of, compared-told}
-use Rattle.cut.specs.Answers.{shortened_as, shortened_of, shortened-told}
+use Rattle.cut.specs.Answers.{shortened_as, shortened_of}
+use Rattle.cut.proofs.Told.{shortened-told}
 use Rattle.stock.specs.Answers.{stocked_as, stocked_of, stocked-told}
 use Rattle.draw.specs.Answers.{taken_as, taken_of, taken-told}
 use Rattle.lookup.specs.Answers.{found_as, found_of, found-told, listed_as, listed_of, listed-told}
 use Rattle.fields.specs.declared.Field.{Field}
 use Rattle.list.specs.declared.Listed.{Listed}
 use Rattle.list.specs.Listing.{Lists}
-use Rattle.step.specs.Answers.{started_as, started_of, started-told, met_as, met_of, met_told}
-use Rattle.step.specs.Answers.{place_as, place_in, place_told, stepped_as}
+use Rattle.step.specs.Answers.{started_as, started_of, met_as, met_of, place_as, place_in, stepped_as}
+use Rattle.step.proofs.Told.{started-told, met_told, place_told}
 
 pub write_text_unique : (p q : ℕ) (m : List ℕ) → Determined written_as (write_text p q m)
 write_text_unique p q m = determined written_as written_of written-told (write_text p q m)

@@ -1,14 +1,9 @@
--- The scope's number and values for each answer of starting and stepping, and a place as numbers; and that these tell
--- the answer.
-use Rattle.std.specs.Prelude.{◌≡◌, refl, cond, List, [], ◌∷◌, ℕ, eqb, get_or}
-use Rattle.std.proofs.Common.{ap}
-use Rattle.bits.specs.Binary.{digit_of}
+-- The scope's number and values for each answer of starting and stepping, and a place as numbers; and what these tell.
+use Rattle.std.specs.Prelude.{cond, List, [], ◌∷◌, ℕ, eqb, get_or}
 use Rattle.outcomes.specs.Outcomes.{Outcome, Answer, leaves, given, refused}
 use Rattle.outcomes.specs.Stepping.{place_of, step_text}
-use Rattle.scan.specs.Judging.{number_of_fault}
+use Rattle.scan.specs.Judging.{number_of_fault, fault_of}
 use Rattle.scan.specs.Taking.{is_turned}
-use Rattle.scan.specs.Judging.{fault_of}
-use Rattle.scan.proofs.Callers.{fault_told}
 use Rattle.scan.specs.declared.Kind.{Kind}
 use Rattle.scan.specs.declared.Kind.TheVariants.{Word, Turned}
 use Rattle.scan.specs.declared.Place.{Place}
@@ -41,36 +36,18 @@ abbrev pub step_from : List ℕ → Place → Outcome
 step_from k p = step_text k p.used (is_turned p.due)
 
 -- the kind that a number stands for, and the place that numbers do
-abbrev kind_of : ℕ → Kind
+abbrev pub kind_of : ℕ → Kind
 kind_of n = cond (eqb n 1) Turned Word
-
-kind_told : (k : Kind) → kind_of (digit_of (is_turned k)) ≡ k
-kind_told Word = refl
-kind_told Turned = refl
 
 abbrev pub place_in : List ℕ → Place
 place_in l = record { used = get_or l 0 0; due = kind_of (get_or l 1 0) }
 
-pub place_told : (p : Place) → place_in (place_as p) ≡ p
-place_told p = λ i. record { used = p.used; due = kind_told p.due i }
-
 abbrev pub started_of : Answer → Started
 started_of a =
     cond (eqb a.refusal 0) (started.At (place_in a.values)) (started.Faulty (fault_of a.refusal))
-
-pub started-told : (r : Started) → started_of (started_as r) ≡ r
-started-told (started.At p) = ap started.At (place_told p)
-started-told (started.Faulty f) = fault_told (λ n. started_of (refused n 2)) started.Faulty refl refl refl refl f
 
 abbrev pub met_of : Answer → Met
 met_of a =
     cond (eqb a.refusal 0) (cond (eqb (get_or a.values 0 0) 0) met.End (met.Quotient (get_or a.values 1 0)))
     (cond (eqb a.refusal 7) met.OutOfRange
     (cond (eqb a.refusal 8) met.WrongPlace (met.Faulty (fault_of a.refusal))))
-
-pub met_told : (r : Met) → met_of (met_as r) ≡ r
-met_told (met.Quotient a) = refl
-met_told met.End = refl
-met_told (met.Faulty f) = fault_told (λ n. met_of (refused n 2)) met.Faulty refl refl refl refl f
-met_told met.WrongPlace = refl
-met_told met.OutOfRange = refl

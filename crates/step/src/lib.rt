@@ -1,4 +1,6 @@
 // Stepping through a text key, a quotient at a time. Between steps a caller keeps the key and its place.
+#![tactic(auto)]
+
 ghost use Rattle.std.specs.Prelude.{not, [], ◌≡◌};
 ghost use Rattle.outcomes.specs.Outcomes.{leaves};
 ghost use Rattle.outcomes.specs.Stepping.{start_text};

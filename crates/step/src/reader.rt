@@ -1,12 +1,11 @@
-// A reader: a lent key, held together with a place in it. The borrow checker covers no function over a struct that
-// holds a reference, so each of these is proved by hand, and none has a branch or a loop: the work is `step`'s.
+// A reader: a lent key, held together with a place in it. None of these has a branch or a loop: the work is `step`'s.
 ghost use Rattle.std.specs.Prelude.{◌≡◌};
 ghost use Rattle.step.specs.Answers.{stepped_as, step_from};
 
 use crate::Stepped;
 use scan::Place;
 
-#[derive(Drop)]
+#[derive(Clone, Copy)]
 pub struct Reader<'a> {
     pub key: &'a [u8],
     pub place: Place,
@@ -33,7 +32,7 @@ pub fn moved<'a>(r: Reader<'a>, place: Place) -> Reader<'a>
     Reader { key: r.key, place }
 }
 
-// The same as `next`, for a caller that holds no reader: with plain parameters, so that its callers are covered.
+// The same as `next`, for a caller that holds no reader.
 pub fn next_at(key: &[u8], place: Place) -> Stepped
     ensures { stepped_as result ≡ step_from key.now place }
 {
