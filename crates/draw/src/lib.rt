@@ -1,4 +1,6 @@
 // Taking out of a stock table.
+#![tactic(auto)]
+
 ghost use Rattle.std.specs.Prelude.{◌≡◌};
 ghost use Rattle.tables.specs.Layouts.{stock_rows};
 ghost use Rattle.outcomes.specs.Outcomes.{leaves};
