@@ -1,5 +1,7 @@
 // What the calls of the stock table answer, as structs for C. Each begins with the refusal's number; where that isn't 0,
 // all else is.
+#![tactic(auto)]
+
 pub mod answers;
 
 // Where a call refuses, used is 0 too: the caller's own count stands.
