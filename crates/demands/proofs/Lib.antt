@@ -1,5 +1,5 @@
 pub mod Columns
-pub mod Met
+pub mod DemandsMet
 pub mod ListerMet
 pub mod StockMet
 pub mod Unique

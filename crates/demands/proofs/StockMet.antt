@@ -16,7 +16,7 @@ use Rattle.histories.proofs.Balance.{balance, row_balance, sound-after, unused_a
 use Rattle.histories.proofs.Alike.{answers-same}
 use Rattle.histories.proofs.Meaning.{right_size, right_rows, keys_rise}
 use Rattle.histories.proofs.Accepted.{put-accepted, take-accepted, find-accepted, list-accepted, list_none}
-use Rattle.demands.proofs.Met.{refuses-first}
+use Rattle.demands.proofs.DemandsMet.{refuses-first}
 use Rattle.demands.specs.Stock.{StockChecked, Accepted, History, Stock}
 
 checked : (p q n used : ℕ) (m : List ℕ) → StockChecked p q n used m

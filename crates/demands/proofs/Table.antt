@@ -47,14 +47,14 @@ unfolding table bits_of key_of form_of usual divided_from word_of digits_after_o
 run = refl
 
 -- what is found and what is printed at each row of a table
-at-row : {A : Type 0} (f g : Row → A) (t : List Row) → map f t ≡ map g t → (r : Row) → Memᴰ r t → f r ≡ g r
-at-row f g t e r (Memᴰ.head q) = ap f q ∙ head-eq_of_cons-eq e ∙ sym (ap g q)
-at-row f g t e r (Memᴰ.tail {xs = l} m) = at-row f g l (tail-eq_of_cons-eq e) r m
+at-row : {A : Type 0} (f g : Row → A) (r : Row) (t : List Row) → map f t ≡ map g t → Memᴰ r t → f r ≡ g r
+at-row f g r t e (Memᴰ.head q) = ap f q ∙ head-eq_of_cons-eq e ∙ sym (ap g q)
+at-row f g r t e (Memᴰ.tail {xs = l} m) = at-row f g r l (tail-eq_of_cons-eq e) m
 
 -- in every row the key is the ratio's key, and the ratio is the key's value
 pub every_row : (r : Row) → Memᴰ r table
     → (key_of words1983 r.ratio.num r.ratio.den ≡ bits_of r.key)
     × (value_of_key words1983 (bits_of r.key) ≡ r.ratio)
 every_row r m =
-    let e = at-row found printed table run r m in
+    let e = at-row found printed r table run m in
     (ap (λ (x : Bits × Ratio). x.0) e, ap (λ (x : Bits × Ratio). x.1) e)

@@ -1,5 +1,5 @@
 -- The three demands, in their own words. Only definitions are imported: what a key and its value are is in the crate
--- `keys`, file Keys; what each call gives and leaves is in `outcomes`. The term that meets the demands is in Met.
+-- `keys`, file Keys; what each call gives and leaves is in `outcomes`. The term that meets the demands is in DemandsMet.
 use Rattle.std.specs.Prelude.{◌≡◌, Bool, ◌⊎◌, ◌↔◌, List, [], ◌∷◌, ℕ, ◌*◌, ◌-◌, ◌^◌, ◌≤◌, ◌<◌, length, replicate}
 use Rattle.bits.specs.Strings.{Bits, ◌≺◌}
 use Rattle.bits.specs.Binary.{bits_of_bytes}

@@ -33,24 +33,14 @@ pub fn lcf_stock_take(
     answers::taken(draw::take_out(table, used, numerator, denominator, quantity))
 }
 
-pub fn lcf_stock_find(
-    table: &[u8],
-    used: usize,
-    numerator: u32,
-    denominator: u32,
-) -> Found
+pub fn lcf_stock_find(table: &[u8], used: usize, numerator: u32, denominator: u32) -> Found
     ensures { leaves (of_found result) table.now
         ≡ stock_call stock_rows (find numerator denominator) used table.now }
 {
     answers::found(lookup::find(table, used, numerator, denominator))
 }
 
-pub fn lcf_stock_from(
-    table: &[u8],
-    used: usize,
-    numerator: u32,
-    denominator: u32,
-) -> Listed
+pub fn lcf_stock_from(table: &[u8], used: usize, numerator: u32, denominator: u32) -> Listed
     ensures { leaves (of_listed result) table.now
         ≡ stock_call stock_rows (list_from numerator denominator) used table.now }
 {
