@@ -38,11 +38,11 @@ fn show_place(rt: &impl Print, words: &[u8], place: Place) -> io::Result<()> {
 }
 
 // What a step met.
-fn show_met(rt: &impl Print, met: Met) -> io::Result<()> {
+fn show_met(rt: &impl Print, met: &Met) -> io::Result<()> {
     match met {
-        Met::Quotient { value } => show::number(rt, value as u64),
+        Met::Quotient { value } => show::number(rt, *value as u64),
         Met::End => show::text(rt, b"end"),
-        Met::Faulty(fault) => show::refusal(rt, show::number_of(fault)),
+        Met::Faulty(fault) => show::refusal(rt, show::number_of(*fault)),
         Met::WrongPlace => show::refusal(rt, 8),
         Met::OutOfRange => show::refusal(rt, 7),
     }
@@ -56,7 +56,7 @@ fn word_in(rt: &impl Print, k: &[u8]) -> io::Result<()> {
             let stepped = step::step(k, place);
             let met = stepped.met;
             let to = stepped.place.used;
-            show_met(rt, met)?;
+            show_met(rt, &met)?;
             show::text(rt, b": ")?;
             characters(rt, k, from, to)?;
             show::text(rt, b"\n")
@@ -101,7 +101,7 @@ pub fn step_from(rt: &impl Print, k: &[u8], used: usize, due: Kind) -> io::Resul
     let stepped = step::step(k, place);
     let met = stepped.met;
     let after = stepped.place;
-    show_met(rt, met)?;
+    show_met(rt, &met)?;
     show_place(rt, b", place ", after)?;
     show::text(rt, b"\n")
 }
@@ -112,7 +112,7 @@ fn steps_from(rt: &impl Print, k: &[u8], from: Place) -> io::Result<()> {
     for _ in 0..100u32 {
         let stepped = step::step(k, place);
         let met = stepped.met;
-        show_met(rt, met)?;
+        show_met(rt, &met)?;
         let Met::Quotient { value: _ } = met else {
             return show::text(rt, b"\n");
         };
