@@ -2,12 +2,12 @@
 // Every line is made from a call's answer; what is expected is in the file `stdout` alone.
 #![tactic(auto)]
 
-use std::io;
-
 mod calls;
 mod histories;
 mod refusals;
 mod show;
+
+use std::io;
 
 fn main(rt: HostRuntime) -> io::Result<()> {
     refusals::sizes(&rt)?;

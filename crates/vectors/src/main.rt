@@ -2,8 +2,6 @@
 // Every line is made from a call's answer; what is expected is in the file `stdout` alone.
 #![tactic(auto)]
 
-use std::io;
-
 mod buffers;
 mod gaps;
 mod limits;
@@ -14,6 +12,8 @@ mod refusals;
 mod show;
 mod texts;
 mod walks;
+
+use std::io;
 
 fn main(rt: HostRuntime) -> io::Result<()> {
     paper::table_one(&rt)?;
