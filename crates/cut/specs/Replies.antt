@@ -65,3 +65,6 @@ module _ (k : List ℕ) (n : ℕ) (m : List ℕ) where
       pub cut-key : 96 ≤ length m → (r : ℕ) (l : List ℕ) → r ≡ length key → l ≡ in_front (take r k) m
           → gives (r ∷ []) l ≡ cut_text k n m
       cut-key h r l c f = rw (f, c, ← text) (rw (le-ltb (length m) 96 h) at within)
+
+-- what the proof of `cut` is found by
+pub ruleset replies = (cut_size, cut_faulty, cut-outside, cut_short, cut-key)

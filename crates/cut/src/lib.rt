@@ -114,6 +114,7 @@ fn copy(k: &[u8], n: usize, out: &mut [u8])
 }
 
 // The first n characters of a key at the front of out, without zeros at the end; the single 0 if no 1 remains.
+#[tactic(auto, using(crate::specs::Replies::replies))]
 pub fn cut(k: &[u8], n: usize, out: &mut [u8]) -> Shortened
     ensures { leaves (shortened_as result) out.new ≡ cut_text k.now n out.old }
 {
