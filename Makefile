@@ -16,7 +16,8 @@ $(archive): $(sources)
 	install -D -m 644 crates/lcf_c/out/liblcf_c.a $@
 
 $(lister): $(sources)
-	cd crates/lister && rt run >/dev/null
+	@mkdir -p target
+	cd crates/lister && rt run >/dev/null 2>../../target/lister.log || { cat ../../target/lister.log >&2; exit 1; }
 	install -D -m 755 crates/lister/out/lister $@
 
 install: $(archive)

@@ -81,7 +81,7 @@ static const struct row {
 } rows[] = {
     {"write column", "1.0", write_column}, {"write text", "1.0", write_text}, {"read column", "1.5", read_column},
     {"read text", "1.5", read_text},       {"compare", "1.2", compare},       {"compare near", "", compare_near},
-    {"cut", "1.2", cut},                   {"start", "", start},           {"step", "1.5", step},
+    {"cut", "1.5", cut},                   {"start", "", start},           {"step", "1.5", step},
 };
 
 static int by_column(const void *a, const void *b) {
