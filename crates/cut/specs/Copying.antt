@@ -24,6 +24,10 @@ pub chars_stored : (k m : List ℕ) (n : ℕ) → n ≤ length k → n ≤ lengt
 chars_stored k m n there room =
     ap (sets m 0) (chars_at_lem k 0 n (omega arith)) ∙ stored-front (take n k) m (rw (length-take-le n k there) room)
 
+-- what is lent from a place on is as long as what is left
+pub lent_size : (k : List ℕ) (at : ℕ) → length (take (length k - at) (drop at k)) ≡ length k - at
+lent_size k at = rw (lent_part k at, length-drop)
+
 -- memory with the first i characters of k at its front
 abbrev pub Copied : List ℕ → List ℕ → List ℕ → ℕ → Type 0
 Copied k m l i = (length l ≡ length m) × (l ≡ in_front (take i k) m)

@@ -1,11 +1,11 @@
 -- How many characters are kept of the first n: while the last one isn't 1 it is dropped, unless it's the only one.
 use Rattle.std.specs.Prelude.{◌≡◌, true, List, [], ◌∷◌, ◌++◌, ℕ, suc, ◌-◌, ◌≤◌, ◌<◌, eqb, length, get_or, take}
-use Rattle.std.proofs.Common.{sym, ◌∙◌, inr, arith, eq-eqb, ne_eqb, length-take, length-take-le, take-suc}
+use Rattle.std.proofs.Common.{sym, ◌∙◌, inr, arith, eq-eqb, ne_eqb, length-take, length-take-le, take_all, take-suc}
 use Rattle.std.proofs.lemmas.List.{length-map}
 use Rattle.std.proofs.Math.ListN.{get_or-map}
 use Rattle.bits.specs.Strings.{Bits, closed}
 use Rattle.bits.specs.Texts.{bits_of_text}
-use Rattle.bits.proofs.Trim.{closed-zero}
+use Rattle.bits.proofs.Trim.{closed_short, closed-zero}
 use Rattle.keys.specs.Keys.{cut_to}
 use Rattle.keys.proofs.Back.{closed-canonical}
 
@@ -17,6 +17,15 @@ pub record Left (k : List ℕ) (n m : ℕ) : Type 0 where
 size : (k : List ℕ) → length (bits_of_text k) ≡ length k
 size k = length-map k (λ c. eqb c 49)
 
+pub left-first : (k : List ℕ) (n m : ℕ) → m ≡ n → n ≤ length k → Left k n m
+left-first k n m e h = record { within = omega arith; same = rw e }
+
+pub left-whole : (k : List ℕ) (n m : ℕ) → m ≡ length k → length k ≤ n → Left k n m
+left-whole k n m e h =
+    let all : (i : ℕ) → length k ≤ i → take i (bits_of_text k) ≡ bits_of_text k =
+    λ i l. take_all i (bits_of_text k) (omega (arith, size k)) in
+    record { within = omega arith; same = rw (all m (omega arith), all n h) }
+
 module _ {k : List ℕ} {n m : ℕ} (left : Left k n m) where
   abbrev bits : Bits
   bits = bits_of_text k
@@ -24,6 +33,9 @@ module _ {k : List ℕ} {n m : ℕ} (left : Left k n m) where
   -- nothing more is dropped
   kept-all : closed (take m bits) ≡ take m bits → m ≡ length (cut_to n bits)
   kept-all e = rw (← left.same, e) (sym (length-take-le m bits (omega (arith, size k))))
+
+  pub kept_few : m ≤ 1 → m ≡ length (cut_to n bits)
+  kept_few h = kept-all (closed_short (take m bits) (rw length-take (omega arith)))
 
   module _ (some : 1 < m) (d : ℕ) where
     -- the last character left stands behind the others
