@@ -1,6 +1,6 @@
 /* Ratio keys that sort: the lexicographic continued fraction keys of Matula and Kornerup (1983), for ratios of 32-bit
    numbers, as text of the characters 0 and 1 and as a column of 12 bytes; and a table of stock in ratio order. The
-   archive liblcf.a is for x86-64 Linux.
+   archive liblcf.a is for x86-64 Linux, on x86-64-v2.
 
    Every call takes any numbers, keys and lengths, checks them itself, and ends. An answer begins with `refusal`: 0
    where the call succeeded, else the first number in the call's order that applies. A refused call has changed nothing,
