@@ -14,7 +14,7 @@ ghost use Rattle.lcf.specs.Structs.{of_written, of_ratio, of_text, of_column, of
 ghost use Rattle.lcf.specs.Structs.{earlier_in};
 
 mod answers;
-mod keys;
+mod key_calls;
 mod places;
 pub mod stocking;
 
@@ -106,32 +106,32 @@ pub fn lcf_read_column(column: &[u8]) -> Ratio
 pub fn lcf_column_to_text(column: &[u8], out: &mut [u8]) -> Text
     ensures { leaves (of_text result) out.new ≡ column_to_text column.now out.old }
 {
-    keys::unpacked(pack::column_to_text(column, out))
+    key_calls::unpacked(pack::column_to_text(column, out))
 }
 
 pub fn lcf_text_to_column(key: &[u8], out: &mut [u8]) -> Column
     ensures { leaves (of_column result) out.new ≡ text_to_column key.now out.old }
 {
-    keys::packed(pack::text_to_column(key, out))
+    key_calls::packed(pack::text_to_column(key, out))
 }
 
 pub fn lcf_compare(first: &[u8], second: &[u8]) -> Standing
     ensures { leaves (of_standing result) [] ≡ compare_text first.now second.now }
 {
-    keys::compared(compare::compare(first, second))
+    key_calls::compared(compare::compare(first, second))
 }
 
 // 1 for the first key, 2 for the second, 0 where comparing refuses: which of the two `compare::earlier` hands back.
 pub fn lcf_earlier(first: &[u8], second: &[u8]) -> u32
     ensures { result ≡ earlier_in (compare_text first.now second.now) }
 {
-    keys::earlier(lcf_compare(first, second))
+    key_calls::earlier(lcf_compare(first, second))
 }
 
 pub fn lcf_cut(key: &[u8], width: usize, out: &mut [u8]) -> Text
     ensures { leaves (of_text result) out.new ≡ cut_text key.now width out.old }
 {
-    keys::shortened(cut::cut(key, width, out))
+    key_calls::shortened(cut::cut(key, width, out))
 }
 
 pub fn lcf_start(key: &[u8]) -> Started
