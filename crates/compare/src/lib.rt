@@ -10,7 +10,7 @@ ghost use Rattle.compare.specs.Earlier.{Earlier};
 
 use scan::{Fault, Judged};
 
-#[derive(Drop)]
+#[derive(Clone, Copy)]
 pub enum Compared {
     Before,
     Same,

@@ -10,7 +10,7 @@ ghost use Rattle.cut.specs.Answers.{shortened_as};
 
 use scan::{Fault, Judged};
 
-#[derive(Drop)]
+#[derive(Clone, Copy)]
 pub enum Shortened {
     Key { characters: usize },
     Faulty(Fault),

@@ -12,7 +12,7 @@ use tables::Row;
 
 // How many rows are used now, the index at which the ratio's row stands, or stood before it went, and its quantity. A
 // refused call gives no count: the caller's own stands.
-#[derive(Drop)]
+#[derive(Clone, Copy)]
 pub enum Taken {
     Row {
         used: usize,

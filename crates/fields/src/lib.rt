@@ -15,14 +15,14 @@ pub enum Field {
 }
 
 // A byte more in the field, or the end of its line.
-#[derive(Drop)]
+#[derive(Clone, Copy)]
 pub enum Fed {
     Within(Field),
     Ended,
 }
 
 // The ratio that was typed, not reduced.
-#[derive(Drop)]
+#[derive(Clone, Copy)]
 pub enum Typed {
     Ratio { numerator: u32, denominator: u32 },
     Malformed,

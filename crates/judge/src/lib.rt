@@ -74,7 +74,7 @@ fn pass(below: usize, i: usize, block: Block, key: Block) -> usize
 }
 
 // What a table's memory is; of a sound table, how many rows at its front stand before a key.
-#[derive(Drop)]
+#[derive(Clone, Copy)]
 pub enum Judged {
     Sound { below: usize },
     WrongTable,

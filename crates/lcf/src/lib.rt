@@ -19,7 +19,7 @@ mod places;
 pub mod stocking;
 
 #[repr(C)]
-#[derive(Drop)]
+#[derive(Clone, Copy)]
 pub struct Written {
     pub refusal: u32,
     pub quotients: u32,
@@ -27,7 +27,7 @@ pub struct Written {
 }
 
 #[repr(C)]
-#[derive(Drop)]
+#[derive(Clone, Copy)]
 pub struct Ratio {
     pub refusal: u32,
     pub numerator: u32,
@@ -35,35 +35,35 @@ pub struct Ratio {
 }
 
 #[repr(C)]
-#[derive(Drop)]
+#[derive(Clone, Copy)]
 pub struct Text {
     pub refusal: u32,
     pub characters: usize,
 }
 
 #[repr(C)]
-#[derive(Drop)]
+#[derive(Clone, Copy)]
 pub struct Column {
     pub refusal: u32,
 }
 
 // 1 before, 2 same, 3 after.
 #[repr(C)]
-#[derive(Drop)]
+#[derive(Clone, Copy)]
 pub struct Standing {
     pub refusal: u32,
     pub standing: u32,
 }
 
 #[repr(C)]
-#[derive(Drop)]
+#[derive(Clone, Copy)]
 pub struct Place {
     pub used: usize,
     pub turned: bool,
 }
 
 #[repr(C)]
-#[derive(Drop)]
+#[derive(Clone, Copy)]
 pub struct Started {
     pub refusal: u32,
     pub place: Place,
@@ -71,7 +71,7 @@ pub struct Started {
 
 // found: whether there is a quotient; there is none at the end.
 #[repr(C)]
-#[derive(Drop)]
+#[derive(Clone, Copy)]
 pub struct Stepped {
     pub refusal: u32,
     pub quotient: u32,

@@ -14,7 +14,7 @@ mod answer;
 pub const ROOM: usize = 130;
 
 // How many bytes of the input were taken and how many written, and the field of the line that isn't ended yet.
-#[derive(Drop)]
+#[derive(Clone, Copy)]
 pub struct Listed {
     pub taken: usize,
     pub written: usize,

@@ -10,7 +10,7 @@ ghost use Rattle.load.specs.Fronts.{Shared};
 use crate::bytes;
 
 // The bits of the first characters of a text, and how many these are.
-#[derive(Drop)]
+#[derive(Clone, Copy)]
 pub struct Front {
     pub bits: u64,
     pub passed: usize,

@@ -14,7 +14,7 @@ use blocks::Block;
 mod bytes;
 mod eights;
 
-#[derive(Drop)]
+#[derive(Clone, Copy)]
 pub enum Loaded {
     Bits { block: Block },
     WrongColumn,

@@ -10,7 +10,7 @@ ghost use Rattle.lookup.specs.Answers.{found_as, listed_as};
 use seek::{Fault, Sought};
 use tables::Row;
 
-#[derive(Drop)]
+#[derive(Clone, Copy)]
 pub enum Found {
     Row { index: usize, quantity: u32 },
     NoSuchRatio,
@@ -35,7 +35,7 @@ pub fn find(table: &[u8], used: usize, p: u32, q: u32) -> Found
     }
 }
 
-#[derive(Drop)]
+#[derive(Clone, Copy)]
 pub enum Listed {
     Row { index: usize, row: Row },
     NoRow,

@@ -9,14 +9,14 @@ ghost use Rattle.pack.specs.Answers.{unpacked_as, packed_as};
 use load::Loaded;
 use scan::{Fault, Judged};
 
-#[derive(Drop)]
+#[derive(Clone, Copy)]
 pub enum Unpacked {
     Key { characters: usize },
     WrongColumn,
     ShortBuffer,
 }
 
-#[derive(Drop)]
+#[derive(Clone, Copy)]
 pub enum Packed {
     Column,
     Faulty(Fault),

@@ -11,7 +11,7 @@ use blocks::Block;
 use scan::{Kind, Place, Taken};
 
 // used: the characters before the quotient that left the range.
-#[derive(Drop)]
+#[derive(Clone, Copy)]
 pub enum Found {
     Ratio { num: u32, den: u32 },
     Over { used: usize },

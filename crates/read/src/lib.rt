@@ -11,14 +11,14 @@ use scan::{Fault, Judged};
 
 mod find;
 
-#[derive(Drop)]
+#[derive(Clone, Copy)]
 pub enum ReadText {
     Ratio { numerator: u32, denominator: u32 },
     Faulty(Fault),
     OutOfRange,
 }
 
-#[derive(Drop)]
+#[derive(Clone, Copy)]
 pub enum ReadColumn {
     Ratio { numerator: u32, denominator: u32 },
     WrongColumn,

@@ -7,7 +7,7 @@ ghost use Rattle.outcomes.specs.Outcomes.{leaves};
 ghost use Rattle.outcomes.specs.Reading.{reduce};
 ghost use Rattle.reduce.specs.Answers.{reduced_as};
 
-#[derive(Drop)]
+#[derive(Clone, Copy)]
 pub enum Reduced {
     Terms { numerator: u32, denominator: u32 },
     ZeroDenominator,

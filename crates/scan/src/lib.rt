@@ -23,7 +23,7 @@ pub enum Fault {
 }
 
 // at is the index of the character at which the judge stopped.
-#[derive(Drop)]
+#[derive(Clone, Copy)]
 pub enum Judged {
     Key,
     Faulty { fault: Fault, at: usize },
@@ -43,7 +43,7 @@ pub struct Place {
 }
 
 // One word: its quotient and how many characters it took; a quotient above 4294967295; or the end of the key.
-#[derive(Drop)]
+#[derive(Clone, Copy)]
 pub enum Taken {
     Quotient { value: u32, characters: usize },
     Long,

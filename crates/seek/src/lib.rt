@@ -10,7 +10,7 @@ use spell::Spelled;
 use tables::Row;
 
 // Why a table or a ratio can't be taken.
-#[derive(Drop)]
+#[derive(Clone, Copy)]
 pub enum Fault {
     WrongTable,
     UnsoundTable,
@@ -19,7 +19,7 @@ pub enum Fault {
 
 // Where a ratio stands among the rows of a table. A row that is there is given as it is; of one that is absent,
 // numerator and denominator in lowest terms.
-#[derive(Drop)]
+#[derive(Clone, Copy)]
 pub enum Sought {
     Here {
         index: usize,

@@ -11,7 +11,7 @@ use line::Line;
 mod line;
 
 // A key's block, the quotients written, and the greatest common divisor of numerator and denominator.
-#[derive(Drop)]
+#[derive(Clone, Copy)]
 pub enum Spelled {
     Key {
         block: Block,

@@ -9,7 +9,7 @@ ghost use Rattle.spell.specs.Lines.{Small, number_of_line, Fits, Appended, After
 
 use blocks::Block;
 
-#[derive(Drop)]
+#[derive(Clone, Copy)]
 pub struct Line {
     pub high: u64,
     pub low: u64,
@@ -32,7 +32,7 @@ fn append(s: Line, w: u64, n: u32) -> Line
 }
 
 // The bits of the word of a, and three times the highest binary digit of a.
-#[derive(Drop)]
+#[derive(Clone, Copy)]
 struct Measured {
     bits: u32,
     triple: u64,

@@ -11,14 +11,14 @@ use scan::{Fault, Judged, Kind, Place, Taken};
 
 pub mod reader;
 
-#[derive(Drop)]
+#[derive(Clone, Copy)]
 pub enum Started {
     At { place: Place },
     Faulty(Fault),
 }
 
 // What a step meets.
-#[derive(Drop)]
+#[derive(Clone, Copy)]
 pub enum Met {
     Quotient { value: u32 },
     End,
@@ -28,7 +28,7 @@ pub enum Met {
 }
 
 // What a step meets, and the place after it; at the end and where the step is refused that is the place handed in.
-#[derive(Drop)]
+#[derive(Clone, Copy)]
 pub struct Stepped {
     pub met: Met,
     pub place: Place,

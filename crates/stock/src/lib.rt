@@ -15,7 +15,7 @@ const ROW: usize = 12;
 
 // How many rows are used now, the index of the ratio's row, and its quantity. A refused call gives no count: the
 // caller's own stands.
-#[derive(Drop)]
+#[derive(Clone, Copy)]
 pub enum Stocked {
     Row {
         used: usize,

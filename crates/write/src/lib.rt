@@ -9,7 +9,7 @@ ghost use Rattle.write.specs.Answers.{written_as};
 
 use spell::Spelled;
 
-#[derive(Drop)]
+#[derive(Clone, Copy)]
 pub enum Written {
     Key { characters: usize, quotients: u32 },
     ZeroDenominator,
