@@ -17,7 +17,7 @@ $(archive): $(sources)
 
 $(lister): $(sources)
 	@mkdir -p target
-	cd crates/lister && rt run >/dev/null 2>../../target/lister.log || { cat ../../target/lister.log >&2; exit 1; }
+	cd crates/lister && rt run </dev/null >/dev/null 2>../../target/lister.log || { cat ../../target/lister.log >&2; exit 1; }
 	install -D -m 755 crates/lister/out/lister $@
 
 install: $(archive)
