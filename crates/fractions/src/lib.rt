@@ -1,2 +1,8 @@
-// A theory crate: its definitions stand in specs/, its theorems in proofs/.
 #![tactic(auto)]
+
+// A ratio of two numbers of 32 bits.
+#[derive(Clone, Copy)]
+pub struct Fraction {
+    pub numerator: u32,
+    pub denominator: u32,
+}

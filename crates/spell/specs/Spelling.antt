@@ -1,5 +1,5 @@
 -- What spelling p/q gives: the block of its key, the quotients written, and the greatest common divisor.
-use Rattle.std.specs.Prelude.{◌≡◌, true, cond, List, ℕ, ◌+◌, ◌^◌, ◌≤◌, ◌<◌, eqb, length}
+use Rattle.std.specs.Prelude.{◌≡◌, true, cond, List, ℕ, ◌+◌, ◌^◌, ◌≤◌, ◌<◌, eqb, length, Result, Ok, Err}
 use Rattle.bits.specs.Strings.{Bits, turn}
 use Rattle.bits.specs.Binary.{number_of, number_from}
 use Rattle.blocks.specs.Blocks.{block_of}
@@ -9,12 +9,17 @@ use Rattle.fractions.specs.TwoStates.{alternate}
 use Rattle.keys.specs.Keys.{spelled, key_of, count_of}
 use Rattle.spell.specs.declared.line.Line.{Line}
 use Rattle.spell.specs.declared.Spelled.{Spelled}
-use Rattle.spell.specs.declared.Spelled.TheVariants.{Key, ZeroDenominator}
+use Rattle.refusals.specs.declared.Refusal.{Refusal}
+use Rattle.refusals.specs.declared.Refusal.TheVariants.{ZeroDenominator}
 use Rattle.spell.specs.Lines.{number_of_line, Small}
 
-unfoldable pub spelling : ℕ → ℕ → Spelled
+-- a key's block, with the quotients and the divisor that belong to it
+abbrev pub spelt : Bits → ℕ → ℕ → Spelled
+spelt t n d = record { block = block_of t; quotients = n; divisor = d }
+
+unfoldable pub spelling : ℕ → ℕ → Result Spelled Refusal
 spelling p q =
-    cond (eqb q 0) ZeroDenominator (Key (block_of (key_of words1983 p q)) (count_of (form_of p q)) (gcd p q))
+    cond (eqb q 0) (Err ZeroDenominator) (Ok (spelt (key_of words1983 p q) (count_of (form_of p q)) (gcd p q)))
 
 -- the quotients still to be written in the turned state d, r, and their words
 abbrev pub to_come : ℕ → ℕ → List ℕ
@@ -36,4 +41,4 @@ pub record Room (d r : ℕ) (s : Line) (quotients : ℕ) : Type 0 where
 pub record Continued (d r : ℕ) (s : Line) (quotients : ℕ) (result : Spelled) : Type 0 where
   pub answer : (t : Bits) → length t ≡ s.bits + length (words_to_come d r)
       → number_of t ≡ number_from (number_of_line s) (words_to_come d r)
-      → result ≡ Key (block_of t) (quotients + length (to_come d r)) (gcd d r)
+      → result ≡ spelt t (quotients + length (to_come d r)) (gcd d r)

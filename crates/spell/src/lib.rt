@@ -7,18 +7,16 @@ ghost use Rattle.spell.specs.Spelling.{spelling, Continued, Room};
 
 use blocks::Block;
 use line::Line;
+use refusals::Refusal;
 
 mod line;
 
 // A key's block, the quotients written, and the greatest common divisor of numerator and denominator.
 #[derive(Clone, Copy)]
-pub enum Spelled {
-    Key {
-        block: Block,
-        quotients: u32,
-        divisor: u32,
-    },
-    ZeroDenominator,
+pub struct Spelled {
+    pub block: Block,
+    pub quotients: u32,
+    pub divisor: u32,
 }
 
 // The words of d/r, the turned one first, after those of s. Each turn of the loop appends a turned word and a word: no
@@ -39,7 +37,7 @@ fn go_on(d0: u32, r0: u32, s0: Line, quotients0: u32) -> Spelled
         r = r % t;
         quotients += 2;
     }
-    Spelled::Key {
+    Spelled {
         block: line::aligned(s),
         quotients,
         divisor: d,
@@ -47,25 +45,21 @@ fn go_on(d0: u32, r0: u32, s0: Line, quotients0: u32) -> Spelled
 }
 
 // The key of p/q. From 1 on it begins with 1 and the word of the whole part, below 1 with 0.
-pub fn spell(p: u32, q: u32) -> Spelled
+pub fn spell(p: u32, q: u32) -> Result<Spelled, Refusal>
     ensures { result ≡ spelling p q }
 {
     if q == 0 {
-        return Spelled::ZeroDenominator;
+        return Err(Refusal::ZeroDenominator);
     }
     let a = p / q;
     let r = p % q;
     if a == 0 {
-        return go_on(
-            q,
-            r,
-            Line {
-                high: 0,
-                low: 0,
-                bits: 1,
-            },
-            0,
-        );
+        let s = Line {
+            high: 0,
+            low: 0,
+            bits: 1,
+        };
+        return Ok(go_on(q, r, s, 0));
     }
     let s = line::append_word(
         Line {
@@ -75,5 +69,5 @@ pub fn spell(p: u32, q: u32) -> Spelled
         },
         a,
     );
-    go_on(q, r, s, 1)
+    Ok(go_on(q, r, s, 1))
 }
