@@ -1,6 +1,6 @@
 -- Where the writer's loop begins, and what its answer is then: the leading character, from 1 on with the word of the
 -- whole part, and then the words to come.
-use Rattle.std.specs.Prelude.{◌≡◌, refl, true, false, List, [], ◌∷◌, ◌++◌, ℕ, zero, suc, ◌+◌, ◌/◌, ◌%◌, ◌^◌, ◌≤◌, ◌<◌}
+use Rattle.std.specs.Prelude.{◌≡◌, refl, true, false, List, [], ◌∷◌, ◌++◌, ℕ, zero, suc, ◌+◌, ◌/◌, ◌%◌, ◌^◌, ◌≤◌, ◌<◌, Result, Ok}
 use Rattle.std.proofs.Math.Path.{sym}
 use Rattle.std.proofs.Common.{◌∙◌, ap, div-add-mod', mod-lt, one-add, arith, ne_eqb, lit<, lit≤, length-append}
 use Rattle.std.proofs.Math.ListN.{length}
@@ -19,9 +19,9 @@ use Rattle.keys.specs.Keys.{spelled, written, key_of, count_of}
 use Rattle.keys.proofs.Size.{written_size, count_size}
 use Rattle.spell.specs.declared.line.Line.{Line}
 use Rattle.spell.specs.declared.Spelled.{Spelled}
-use Rattle.spell.specs.declared.Spelled.TheVariants.{Key}
+use Rattle.refusals.specs.declared.Refusal.{Refusal}
 use Rattle.spell.specs.Lines.{number_of_line, Small, After}
-use Rattle.spell.specs.Spelling.{spelling, to_come, words_to_come, Room, Continued}
+use Rattle.spell.specs.Spelling.{spelling, spelt, to_come, words_to_come, Room, Continued}
 
 -- s is the front of what is written for p/q, and count its quotients
 pub record Begun (p q : ℕ) (front : Bits) (s : Line) (count : ℕ) : Type 0 where
@@ -99,15 +99,19 @@ module _ {p q : ℕ} {front : Bits} {s : Line} {count : ℕ} (positive : 1 ≤ q
     few = omega (arith, b.counted, count_size words1983 p q positive (omega arith) (omega arith));
   }
 
-  pub begun-answer : {result : Spelled} → Continued q (p % q) s count result → result ≡ spelling p q
+  pub begun-answer : {result : Spelled} → Continued q (p % q) s count result
+      → ◌≡◌ {A = Result Spelled Refusal} (Ok result) (spelling p q)
   unfolding spelling key_of
-  begun-answer h =
+  begun-answer {result} h =
       let string = written words1983 (form_of p q) in
       let same : block_of string ≡ block_of (closed string) =
       sym (block-same (closed string) string (closed-same string)) in
       let divisor : gcd q (p % q) ≡ gcd p q =
       sym (gcd-step p q (p / q) (p % q) (sym (div-add-mod' p q)) (mod-lt p positive)) in
       let counted : count + length (to_come q (p % q)) ≡ count_of (form_of p q) = sym b.counted in
+      let answer : result ≡ spelt string (count + length (to_come q (p % q))) (gcd q (p % q)) =
       h.answer string (rw (b.whole, length-append) (omega (arith, b.bits)))
-      (rw (b.whole, b.number) (number-append 0 front (words_to_come q (p % q))))
-      ∙ rw (ne_eqb q 0 (λ e. omega arith)) λ i. Key (same i) (counted i) (divisor i)
+      (rw (b.whole, b.number) (number-append 0 front (words_to_come q (p % q)))) in
+      ap Ok answer
+      ∙ rw (ne_eqb q 0 (λ e. omega arith))
+      λ i. Ok (record { block = same i; quotients = counted i; divisor = divisor i })

@@ -16,8 +16,8 @@ use Rattle.fractions.proofs.TwoStates.{alternate-end, alternate-word, alternate_
 use Rattle.keys.specs.Keys.{spelled}
 use Rattle.spell.specs.declared.line.Line.{Line}
 use Rattle.spell.specs.Lines.{number_of_line, After}
-use Rattle.spell.specs.declared.Spelled.TheVariants.{Key}
-use Rattle.spell.specs.Spelling.{to_come, words_to_come, Room, Continued}
+use Rattle.spell.specs.declared.Spelled.{Spelled}
+use Rattle.spell.specs.Spelling.{spelt, to_come, words_to_come, Room, Continued}
 
 -- what holds at each turn, begun at d₀, r₀, s₀ and count₀
 pub record Going (d₀ r₀ : ℕ) (s₀ : Line) (count₀ d r : ℕ) (s : Line) (count : ℕ) : Type 0 where
@@ -110,7 +110,7 @@ module _ {d r : ℕ} {s : Line} {count : ℕ} (some : 1 ≤ r) (here : Room d r 
 pub going-end : {d₀ r₀ : ℕ} {s₀ : Line} {count₀ d r : ℕ} {s : Line} {count : ℕ} {b : Block}
     → Going d₀ r₀ s₀ count₀ d r s count → r ≡ 0
     → ((t : Bits) → length t ≡ s.bits → number_of t ≡ number_of_line s → b ≡ block_of t)
-    → Continued d₀ r₀ s₀ count₀ (Key b count d)
+    → Continued d₀ r₀ s₀ count₀ (record { block = b; quotients = count; divisor = d })
 going-end {d₀} {r₀} {s₀} {count₀} {d} {r} {s} {count} {b} g e block = record { answer = answer }
   where
     over : to_come d r ≡ []
@@ -118,11 +118,11 @@ going-end {d₀} {r₀} {s₀} {count₀} {d} {r} {s} {count} {b} g e block = re
 
     answer : (t : Bits) → length t ≡ s₀.bits + length (words_to_come d₀ r₀)
         → number_of t ≡ number_from (number_of_line s₀) (words_to_come d₀ r₀)
-        → Key b count d ≡ Key (block_of t) (count₀ + length (to_come d₀ r₀)) (gcd d₀ r₀)
+        → record { block = b; quotients = count; divisor = d } ≡ spelt t (count₀ + length (to_come d₀ r₀)) (gcd d₀ r₀)
     answer t size number =
         let none : words_to_come d r ≡ [] = ap (λ (l : List ℕ). turn (spelled words1983 l)) over in
         let same : b ≡ block_of t =
         block t (size ∙ sym g.bits ∙ rw none (omega arith)) (number ∙ sym g.number ∙ rw none refl) in
         let all : count ≡ count₀ + length (to_come d₀ r₀) = rw (← g.counted, over) (omega arith) in
         let last : d ≡ gcd d₀ r₀ = sym (gcd-end d) ∙ rw e at g.divisor in
-        λ i. Key (same i) (all i) (last i)
+        λ i. record { block = same i; quotients = all i; divisor = last i }
