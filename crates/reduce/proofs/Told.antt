@@ -1,9 +1,9 @@
 -- The scope's number and values tell each answer of lowest terms.
-use Rattle.std.proofs.Common.{◌≡◌, refl}
-use Rattle.reduce.specs.Answers.{reduced_as, reduced_of}
-use Rattle.reduce.specs.declared.Reduced.{Reduced}
-use Rattle.reduce.specs.declared.Reduced.TheVariants.{Terms, ZeroDenominator}
+use Rattle.std.specs.Prelude.{◌≡◌, refl, Result}
+use Rattle.fractions.specs.declared.Fraction.{Fraction}
+use Rattle.refusals.specs.Answers.{answered, terms_as, terms_in}
+use Rattle.refusals.proofs.Told.{told_by, answered-told}
+use Rattle.refusals.specs.declared.Refusal.{Refusal}
 
-pub reduced_told : (r : Reduced) → reduced_of (reduced_as r) ≡ r
-reduced_told (Terms p q) = refl
-reduced_told ZeroDenominator = refl
+pub reduced_told : (r : Result Fraction Refusal) → told_by 2 terms_as terms_in (answered 2 terms_as r) ≡ r
+reduced_told = answered-told 2 terms_as terms_in (λ r. refl)

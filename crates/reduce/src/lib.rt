@@ -5,13 +5,10 @@ ghost use Rattle.std.specs.Prelude.{◌≡◌, []};
 ghost use Rattle.fractions.specs.Fractions.{gcd};
 ghost use Rattle.outcomes.specs.Outcomes.{leaves};
 ghost use Rattle.outcomes.specs.Reading.{reduce};
-ghost use Rattle.reduce.specs.Answers.{reduced_as};
+ghost use Rattle.refusals.specs.Answers.{answered, terms_as};
 
-#[derive(Clone, Copy)]
-pub enum Reduced {
-    Terms { numerator: u32, denominator: u32 },
-    ZeroDenominator,
-}
+use fractions::Fraction;
+use refusals::Refusal;
 
 // By repeated remainder: the second number falls at each call.
 pub fn greatest_divisor(a: u32, b: u32) -> u32
@@ -24,15 +21,15 @@ pub fn greatest_divisor(a: u32, b: u32) -> u32
 }
 
 // p/q in lowest terms.
-pub fn lowest_terms(p: u32, q: u32) -> Reduced
-    ensures { leaves (reduced_as result) [] ≡ reduce p q }
+pub fn lowest_terms(p: u32, q: u32) -> Result<Fraction, Refusal>
+    ensures { leaves (answered 2 terms_as result) [] ≡ reduce p q }
 {
     if q == 0 {
-        return Reduced::ZeroDenominator;
+        return Err(Refusal::ZeroDenominator);
     }
     let g = greatest_divisor(p, q);
-    Reduced::Terms {
+    Ok(Fraction {
         numerator: p / g,
         denominator: q / g,
-    }
+    })
 }
