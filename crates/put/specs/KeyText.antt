@@ -1,5 +1,5 @@
 -- The text of a block's key: the first characters of its string, put out from one word or from two.
-use Rattle.std.specs.Prelude.{◌≡◌, false, List, ◌++◌, ℕ, ◌+◌, ◌-◌, ◌*◌, ◌%◌, ◌^◌, ◌≤◌, ◌<◌, length, drop}
+use Rattle.std.specs.Prelude.{◌≡◌, false, List, ◌++◌, ℕ, ◌+◌, ◌-◌, ◌*◌, ◌%◌, ◌^◌, ◌≤◌, ◌<◌, length, drop, Result, Ok}
 use Rattle.std.proofs.Common.{sym, ◌∙◌, arith, take-take, le-ltb}
 use Rattle.std.proofs.Math.Path.{ap}
 use Rattle.std.proofs.Math.ListN.{take}
@@ -12,6 +12,7 @@ use Rattle.bits.proofs.Trim.{closed-length, closed-take}
 use Rattle.blocks.specs.declared.Block.{Block}
 use Rattle.blocks.specs.Blocks.{bits_of_block}
 use Rattle.blocks.proofs.Laws.{block-length, block-front, block-rest}
+use Rattle.refusals.specs.declared.Refusal.{Refusal}
 use Rattle.put.specs.Putting.{text_put}
 use Rattle.put.specs.Piecewise.{text-more}
 
@@ -29,21 +30,21 @@ low_take v n h r =
 
 module _ (b : Block) (m : List ℕ) {n : ℕ} (room : 96 ≤ length m) (count : n ≡ length (closed (bits_of_block b))) where
   key-text : {e : List ℕ} → e ≡ in_front (text_of (take n (bits_of_block b))) m
-      → ◌≡◌ {A = ℕ × List ℕ} (n, e) (text_put (bits_of_block b) m)
+      → ◌≡◌ {A = Result ℕ Refusal × List ℕ} (Ok n, e) (text_put (bits_of_block b) m)
   unfolding text_put
   key-text h =
       let key : take n (bits_of_block b) ≡ closed (bits_of_block b) = rw count (sym (closed-take (bits_of_block b))) in
-      rw (le-ltb (length m) 96 room) (λ i. (count i, (h ∙ ap (λ (t : Bits). in_front (text_of t) m) key) i))
+      rw (le-ltb (length m) 96 room) (λ i. (Ok (count i), (h ∙ ap (λ (t : Bits). in_front (text_of t) m) key) i))
 
   pub high_text : {e : List ℕ} → n ≤ 64 → e ≡ in_front (text_of (take n (digits_in 64 b.high))) m
-      → ◌≡◌ {A = ℕ × List ℕ} (n, e) (text_put (bits_of_block b) m)
+      → ◌≡◌ {A = Result ℕ Refusal × List ℕ} (Ok n, e) (text_put (bits_of_block b) m)
   high_text l h = key-text (rw (← block-front, take-take) at h)
 
   -- from both words, of which the second is put out behind the text of the first
   pub both_text : {first e : List ℕ} → 64 < n → b.low < 2 ^ 32
       → first ≡ in_front (text_of (take 64 (digits_in 64 b.high))) m
       → e ≡ take 64 first ++ in_front (text_of (take (n - 64) (digits_in 64 (b.low * 2 ^ 32 % 2 ^ 64)))) (drop 64 first)
-      → ◌≡◌ {A = ℕ × List ℕ} (n, e) (text_put (bits_of_block b) m)
+      → ◌≡◌ {A = Result ℕ Refusal × List ℕ} (Ok n, e) (text_put (bits_of_block b) m)
   both_text l h f g =
       let s = bits_of_block b in
       let start : take 64 (digits_in 64 b.high) ≡ take 64 s =

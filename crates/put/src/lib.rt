@@ -1,5 +1,5 @@
 // A block put out as text or as a column, a number in decimal digits. Each gives how many characters its key or its
-// numeral has, and 0, which is the length of none, where the buffer is too short.
+// numeral has, and refuses a buffer that is too short.
 #![tactic(auto)]
 
 ghost use Rattle.std.specs.Prelude.{◌≡◌, length};
@@ -8,6 +8,7 @@ ghost use Rattle.blocks.specs.Blocks.{bits_of_block};
 ghost use Rattle.put.specs.Putting.{text_put, column_put, decimal_put};
 
 use blocks::Block;
+use refusals::Refusal;
 
 mod column;
 mod decimal;
@@ -28,11 +29,11 @@ fn characters_of(b: Block) -> usize
 
 // As text at the front of out. Only the key's own characters are written.
 #[tactic(auto, unfolding(crate::specs::Putting::text_put))]
-pub fn put_text(b: Block, out: &mut [u8]) -> usize
+pub fn put_text(b: Block, out: &mut [u8]) -> Result<usize, Refusal>
     ensures { (result, out.new) ≡ text_put (bits_of_block b) out.old }
 {
     if out.len() < 96 {
-        return 0;
+        return Err(Refusal::WrongSize);
     }
     let n = characters_of(b);
     let high = b.high;
@@ -43,35 +44,35 @@ pub fn put_text(b: Block, out: &mut [u8]) -> usize
         text::put_bits(out, high, 64);
         text::put_bits(&mut out[64..], (low as u64) << 32, n - 64);
     }
-    n
+    Ok(n)
 }
 
 // As a column at the front of out, 12 bytes. The characters are counted between the two puts: with a branch between
 // them each becomes one store.
 #[tactic(auto, unfolding(crate::specs::Putting::column_put))]
-pub fn put_column(b: Block, out: &mut [u8]) -> usize
+pub fn put_column(b: Block, out: &mut [u8]) -> Result<usize, Refusal>
     ensures { (result, out.new) ≡ column_put (bits_of_block b) out.old }
 {
     if out.len() < 12 {
-        return 0;
+        return Err(Refusal::WrongSize);
     }
     let high = b.high;
     let low = b.low;
     column::put_high(out, high);
     let n = characters_of(b);
     column::put_low(&mut out[8..], low);
-    n
+    Ok(n)
 }
 
 // A number in decimal digits at the front of out.
 #[tactic(auto, unfolding(crate::specs::Putting::decimal_put))]
-pub fn put_decimal(n: u32, out: &mut [u8]) -> usize
+pub fn put_decimal(n: u32, out: &mut [u8]) -> Result<usize, Refusal>
     ensures { (result, out.new) ≡ decimal_put n out.old }
 {
     if out.len() < 10 {
-        return 0;
+        return Err(Refusal::WrongSize);
     }
     let count = decimal::places(n);
     decimal::put_digits(out, n, count);
-    count
+    Ok(count)
 }
