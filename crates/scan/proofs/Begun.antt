@@ -1,5 +1,5 @@
 -- A string that begins with a word: what its first 64 bits are as a number, and what is taken from it.
-use Rattle.std.specs.Prelude.{◌≡◌, refl, Bool, true, false, ◌++◌, ◌∷◌, ℕ, suc, ◌+◌, ◌*◌, ◌-◌, ◌^◌, ◌≤◌, ◌<◌, length, replicate}
+use Rattle.std.specs.Prelude.{◌≡◌, refl, Bool, true, false, ◌++◌, ◌∷◌, ℕ, suc, ◌+◌, ◌*◌, ◌-◌, ◌^◌, ◌≤◌, ◌<◌, length, replicate, Err}
 use Rattle.std.proofs.Common.{sym, ◌∙◌, ap, append_assoc, pow-suc, sub-one, arith, pow-add, pow_mono, pow_pos}
 use Rattle.std.proofs.Math.Decide.{dec_lt}
 use Rattle.std.proofs.lemmas.List.{replicate-append-replicate}
@@ -14,8 +14,8 @@ use Rattle.families.specs.Words.{digits_after_one, word_of, first_number}
 use Rattle.families.proofs.Digits.{number-digits, number_high}
 use Rattle.families.proofs.Measured.{digits_low, word-length, word-number}
 use Rattle.families.proofs.Complete.{word_complete}
-use Rattle.scan.specs.declared.Taken.TheVariants.{Quotient, Long}
-use Rattle.scan.specs.Taking.{taken_from}
+use Rattle.refusals.specs.declared.Refusal.TheVariants.{OutOfRange}
+use Rattle.scan.specs.Taking.{took, taken_from}
 use Rattle.scan.proofs.Taking.{taken_many, taken_few}
 use Rattle.scan.specs.Runs.{Counted, number_read, Front, counted_many, run-counted, word-read}
 
@@ -127,19 +127,19 @@ module _ (z : Bool) (s : Bits) {w r : ℕ} (h : ended z s ≡ false) (e : number
   run_many : 32 ≤ k → r ≡ 32
   run_many l = counted_many c (rw e at (word-ones z s rest a same l))
 
-  pub taken_long : 31 < r → Long ≡ taken_from z s
+  pub taken_long : 31 < r → Err OutOfRange ≡ taken_from z s
   taken_long l = by_size (dec_lt k 32)
     where
-      by_size : Dec (k < 32) → Long ≡ taken_from z s
+      by_size : Dec (k < 32) → Err OutOfRange ≡ taken_from z s
       by_size (yes m) = absurd (omega (arith, run_few m))
       by_size (no m) = taken_many z s h k low (omega arith)
 
-  pub taken-word : r < 32 → Quotient (number_read w r) (2 * r + 1) ≡ taken_from z s
+  pub taken-word : r < 32 → took (number_read w r) (2 * r + 1) ≡ taken_from z s
   taken-word l = by_size (dec_lt k 32)
     where
-      by_size : Dec (k < 32) → Quotient (number_read w r) (2 * r + 1) ≡ taken_from z s
+      by_size : Dec (k < 32) → took (number_read w r) (2 * r + 1) ≡ taken_from z s
       by_size (yes m) =
           let v : number_read w r ≡ a = rw (run_few m) (word-read k m (front m)) in
           let n : 2 * r + 1 ≡ 2 * k + 1 = omega (arith, run_few m) in
-          (λ i. Quotient (v i) (n i)) ∙ taken_few z s h k low high m
+          (λ i. took (v i) (n i)) ∙ taken_few z s h k low high m
       by_size (no m) = absurd (omega (arith, run_many (omega arith)))

@@ -1,6 +1,6 @@
 -- The word in front of a text, read from its characters: its run is counted, zeros are told from the end, digits are
 -- read.
-use Rattle.std.specs.Prelude.{◌≡◌, refl, Bool, true, false, not, List, [], ◌∷◌, ℕ, zero, suc, ◌+◌, ◌*◌, ◌-◌, ◌^◌, ◌≤◌, ◌<◌, min, eqb, length, get_or, take, drop}
+use Rattle.std.specs.Prelude.{◌≡◌, refl, Bool, true, false, not, List, [], ◌∷◌, ℕ, zero, suc, ◌+◌, ◌*◌, ◌-◌, ◌^◌, ◌≤◌, ◌<◌, min, eqb, length, get_or, take, drop, Err}
 use Rattle.std.proofs.Common.{sym, ◌∙◌, ap, add-zero, add-one, ne_eqb, drop_of_length-le, pow_mono, drop-cons, get_or-drop}
 use Rattle.std.specs.Bool.{beq}
 use Rattle.std.proofs.lemmas.Bool.{false≢true}
@@ -20,9 +20,9 @@ use Rattle.families.proofs.Digits.{number_low, number_high}
 use Rattle.load.specs.Gathering.{byte_digit}
 use Rattle.scan.specs.declared.Kind.{Kind}
 use Rattle.scan.specs.declared.Place.{Place}
-use Rattle.scan.specs.declared.Taken.TheVariants.{Quotient, Long}
+use Rattle.refusals.specs.declared.Refusal.TheVariants.{OutOfRange}
 use Rattle.scan.specs.Characters.{bits_read, Ran}
-use Rattle.scan.specs.Taking.{is_turned, taken_from, taken_at}
+use Rattle.scan.specs.Taking.{is_turned, took, taken_from, taken_at}
 use Rattle.scan.proofs.Taking.{taken_many, taken_few, taken_at_lem}
 
 -- whether the character at i, as it is read, is a zero
@@ -129,10 +129,10 @@ module _ (z : Bool) (s : Bits) (h : ended z s ≡ false) {r : ℕ} (e : r ≡ mi
   unfolding first_number
   high = rw length-first at (number_high digits)
 
-  pub run_long : 31 < r → Long ≡ taken_from z s
+  pub run_long : 31 < r → Err OutOfRange ≡ taken_from z s
   run_long l = taken_many z s h (run_of s) low (omega arith)
 
-  pub run-word : r < 32 → Quotient (number_from 1 (first_bits z r (drop (suc r) s))) (2 * r + 1) ≡ taken_from z s
+  pub run-word : r < 32 → took (number_from 1 (first_bits z r (drop (suc r) s))) (2 * r + 1) ≡ taken_from z s
   unfolding first_number
   run-word l = let same : r ≡ run_of s = omega arith in rw same (taken_few z s h (run_of s) low high (omega arith))
 

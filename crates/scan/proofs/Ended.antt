@@ -1,5 +1,5 @@
 -- A turned word is due: whether anything but zeros is left, and what is taken then.
-use Rattle.std.specs.Prelude.{◌≡◌, refl, Bool, true, false, [], ◌∷◌, ◌++◌, ℕ, zero, suc, ◌+◌, ◌-◌, ◌^◌, ◌≤◌, length, drop}
+use Rattle.std.specs.Prelude.{◌≡◌, refl, Bool, true, false, [], ◌∷◌, ◌++◌, ℕ, zero, suc, ◌+◌, ◌-◌, ◌^◌, ◌≤◌, length, drop, None, Ok, Err}
 use Rattle.std.proofs.Common.{sym, ap, arith, pow_pos}
 use Rattle.std.proofs.lemmas.Bool.{false≢true}
 use Rattle.bits.specs.Strings.{Bits, turn, all_ones}
@@ -9,7 +9,7 @@ use Rattle.bits.proofs.Pieces.{length-first}
 use Rattle.bits.proofs.Sums.{number-first}
 use Rattle.families.specs.Families.{ended}
 use Rattle.families.proofs.Digits.{number_low}
-use Rattle.scan.specs.declared.Taken.TheVariants.{Long, End}
+use Rattle.refusals.specs.declared.Refusal.TheVariants.{OutOfRange}
 use Rattle.scan.specs.Taking.{taken_from}
 use Rattle.scan.proofs.Taking.{taken-ended}
 use Rattle.scan.specs.Runs.{Counted}
@@ -54,7 +54,7 @@ is_ended (suc n) (false ∷ s) l h = is_ended n s (omega arith) h
 
 -- 64 zeros and more: the run is long, unless the rest is zeros too
 pub long_turned : (s : Bits) → number_of (first_bits false 64 s) ≡ 0 → (number_of (first_bits false 64 (drop 64 s)) ≡ 0 → ⊥)
-    → Long ≡ taken_from true (turn s)
+    → Err OutOfRange ≡ taken_from true (turn s)
 long_turned s e h =
     taken_long true (turn s)
     (not-ended (64 + 64) s λ n. h (omega (arith, number-first false 64 64 s)))
@@ -63,10 +63,10 @@ long_turned s e h =
     all_ones_lem : Counted (2 ^ 64 - 1) 32
     all_ones_lem = record { most = omega arith; ones = omega arith; stopped = λ l. absurd (omega arith) }
 
-pub end_turned : (n : ℕ) (s : Bits) → length s ≤ n → number_of (first_bits false n s) ≡ 0 → End ≡ taken_from true (turn s)
+pub end_turned : (n : ℕ) (s : Bits) → length s ≤ n → number_of (first_bits false n s) ≡ 0 → Ok None ≡ taken_from true (turn s)
 end_turned n s l e = sym (taken-ended true (turn s) (is_ended n s l e))
 
 -- the same in two windows
 pub end_in_two : (s : Bits) → length s ≤ 128 → number_of (first_bits false 64 s) ≡ 0
-    → number_of (first_bits false 64 (drop 64 s)) ≡ 0 → End ≡ taken_from true (turn s)
+    → number_of (first_bits false 64 (drop 64 s)) ≡ 0 → Ok None ≡ taken_from true (turn s)
 end_in_two s l e f = end_turned (64 + 64) s l (omega (arith, number-first false 64 64 s))

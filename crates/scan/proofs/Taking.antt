@@ -1,5 +1,5 @@
 -- What is taken, by the size of its number, at the end, and by the kind that is due.
-use Rattle.std.specs.Prelude.{◌≡◌, Bool, true, false}
+use Rattle.std.specs.Prelude.{◌≡◌, Bool, true, false, None, Ok, Err}
 use Rattle.std.proofs.Common.{sym, ap, arith}
 use Prim.Native.Nat.{ℕ, suc, ◌+◌, ◌*◌, ◌^◌, ◌≤◌, ◌<◌}
 use Rattle.std.proofs.Math.Numerals.{sub-one}
@@ -14,25 +14,25 @@ use Rattle.keys.specs.Size.{limit}
 use Rattle.keys.specs.Places.{left_at}
 use Rattle.scan.specs.declared.Kind.{Kind}
 use Rattle.scan.specs.declared.Place.{Place}
-use Rattle.scan.specs.declared.Taken.TheVariants.{Quotient, Long, End}
-use Rattle.scan.specs.Taking.{is_turned, taken_from, taken_at}
+use Rattle.refusals.specs.declared.Refusal.TheVariants.{OutOfRange}
+use Rattle.scan.specs.Taking.{is_turned, took, taken_from, taken_at}
 
 -- the same by the number's size: m digits follow its leading one
 module _ (z : Bool) (s : Bits) (h : ended z s ≡ false) (m : ℕ) (low : 2 ^ m ≤ first_number z s) where
   abbrev a : ℕ
   a = first_number z s
 
-  pub taken_many : 32 ≤ m → Long ≡ taken_from z s
+  pub taken_many : 32 ≤ m → Err OutOfRange ≡ taken_from z s
   unfolding taken_from
   taken_many l = rw (h, lt-ltb limit a (omega (arith, pow_mono {i = 32} {j = m} l)))
 
-  pub taken_few : a < 2 ^ suc m → m < 32 → Quotient a (2 * m + 1) ≡ taken_from z s
+  pub taken_few : a < 2 ^ suc m → m < 32 → took a (2 * m + 1) ≡ taken_from z s
   unfolding taken_from
   taken_few high l =
       let size : length (word_of a) ≡ 2 * m + 1 = omega (arith, word-length (suc m) a (rw sub-one low) high) in
       rw (h, le-ltb limit a (omega (arith, pow_mono {i = suc m} {j = 32} (omega arith))), size)
 
-pub taken-ended : (z : Bool) (s : Bits) → ended z s ≡ true → taken_from z s ≡ End
+pub taken-ended : (z : Bool) (s : Bits) → ended z s ≡ true → taken_from z s ≡ Ok None
 unfolding taken_from
 taken-ended z s h = rw h
 

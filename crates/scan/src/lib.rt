@@ -9,85 +9,87 @@ ghost use Rattle.scan.specs.Judging.{judgement};
 ghost use Rattle.scan.specs.Taking.{taken_at};
 
 use blocks::Block;
+use refusals::Refusal;
 
 mod texts;
 mod words;
 
-// The faults of a text key, in the order in which they are judged: 3, 4, 5, 6.
-#[derive(Clone, Copy)]
-pub enum Fault {
-    Empty,
-    Long,
-    Character,
-    LastZero,
+// The first fault of a text key, in the order in which they are judged; at is the index of the character at which the
+// judge stopped.
+#[derive(Clone, Copy, Debug, PartialEq, Eq)]
+pub struct Fault {
+    pub refusal: Refusal,
+    pub at: usize,
 }
 
-// at is the index of the character at which the judge stopped.
-#[derive(Clone, Copy)]
-pub enum Judged {
-    Key,
-    Faulty { fault: Fault, at: usize },
+// A call that hands on no more than why it refuses drops the index.
+impl From<Fault> for Refusal {
+    ghost from_gives = { λ f e. e ≡ f.refusal };
+
+    fn from(fault: Fault) -> Refusal {
+        fault.refusal
+    }
 }
 
-#[derive(Clone, Copy)]
+#[derive(Clone, Copy, Debug, PartialEq, Eq)]
 pub enum Kind {
     Word,
     Turned,
 }
 
 // A place in a key: the characters used, and the kind of word due there.
-#[derive(Clone, Copy)]
+#[derive(Clone, Copy, Debug, PartialEq, Eq)]
 pub struct Place {
     pub used: usize,
     pub due: Kind,
 }
 
-// One word: its quotient and how many characters it took; a quotient above 4294967295; or the end of the key.
-#[derive(Clone, Copy)]
-pub enum Taken {
-    Quotient { value: u32, characters: usize },
-    Long,
-    End,
+// One word: its quotient and how many characters it took.
+#[derive(Clone, Copy, Debug, PartialEq, Eq)]
+pub struct Quotient {
+    pub value: u32,
+    pub characters: usize,
 }
 
 // Whether k is a key, or its first fault.
-pub fn judge(k: &[u8]) -> Judged
+pub fn judge(k: &[u8]) -> Result<(), Fault>
     ensures { result ≡ judgement k.now }
 {
     if k.len() == 0 {
-        return Judged::Faulty {
-            fault: Fault::Empty,
+        return Err(Fault {
+            refusal: Refusal::EmptyKey,
             at: 0,
-        };
+        });
     }
     if 96 < k.len() {
-        return Judged::Faulty {
-            fault: Fault::Long,
+        return Err(Fault {
+            refusal: Refusal::LongKey,
             at: 96,
-        };
+        });
     }
     let at = load::first_strange(k);
     if at < k.len() {
-        return Judged::Faulty {
-            fault: Fault::Character,
+        return Err(Fault {
+            refusal: Refusal::StrangeKey,
             at,
-        };
+        });
     }
     if 1 < k.len() {
         let last = k.len() - 1;
         if k[last] == 48 {
-            return Judged::Faulty {
-                fault: Fault::LastZero,
+            return Err(Fault {
+                refusal: Refusal::OpenKey,
                 at: last,
-            };
+            });
         }
     }
-    Judged::Key
+    Ok(())
 }
 
-// The word due at a place of a block's string, extended by zeros. A turned word is read as a word of the turned bits;
-// where the window is all zeros, it is long or, if only zeros are left, the end.
-pub fn take(b: Block, place: Place) -> Taken
+// The word due at a place of a block's string, extended by zeros; no word at the end, and a refusal where its quotient
+// is above 4294967295. A turned word is read as a word of the turned bits; where the window is all zeros, it is long
+// or, if only zeros are left, the end.
+pub fn take(b: Block, place: Place) -> Result<Option<Quotient>, Refusal>
     ensures { result ≡ taken_at (bits_of_block b) place }
 {
     let used = place.used;
@@ -101,16 +103,16 @@ pub fn take(b: Block, place: Place) -> Taken
             }
             if used < 32 {
                 if words::window(b, used + 64) != 0 {
-                    return Taken::Long;
+                    return Err(Refusal::OutOfRange);
                 }
             }
-            Taken::End
+            Ok(None)
         }
     }
 }
 
 // The word due at a place of a text, extended by zeros, read straight from its characters.
-pub fn take_text(k: &[u8], place: Place) -> Taken
+pub fn take_text(k: &[u8], place: Place) -> Result<Option<Quotient>, Refusal>
     ensures { result ≡ taken_at (bits_of_text k.now) place }
 {
     let used = place.used;

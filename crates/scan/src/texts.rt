@@ -7,7 +7,8 @@ ghost use Rattle.families.specs.Words.{run_of};
 ghost use Rattle.scan.specs.Characters.{bits_read};
 ghost use Rattle.scan.specs.Taking.{taken_from};
 
-use crate::Taken;
+use crate::Quotient;
+use refusals::Refusal;
 
 // The ones in front, counted until a zero is met or the text ends, or until there are more than 31.
 fn run(k: &[u8], turned: bool) -> usize
@@ -67,22 +68,22 @@ fn zeros_from(k: &[u8], at: usize) -> bool
 }
 
 // The word in front; where a turned word is due and only zeros are left, the end.
-pub fn word(k: &[u8], turned: bool) -> Taken
+pub fn word(k: &[u8], turned: bool) -> Result<Option<Quotient>, Refusal>
     ensures { result ≡ taken_from turned (bits_read k.now turned) }
 {
     let r = run(k, turned);
     if turned {
         if zeros_from(k, r) {
-            return Taken::End;
+            return Ok(None);
         }
     }
     if 31 < r {
-        return Taken::Long;
+        return Err(Refusal::OutOfRange);
     }
-    Taken::Quotient {
+    Ok(Some(Quotient {
         value: number(k, r, turned),
         characters: 2 * r + 1,
-    }
+    }))
 }
 
 // Where the characters after those used begin. Past the text there are none.

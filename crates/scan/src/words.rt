@@ -7,8 +7,9 @@ ghost use Rattle.families.specs.Families.{ended};
 ghost use Rattle.scan.specs.Runs.{Counted};
 ghost use Rattle.scan.specs.Taking.{taken_from};
 
-use crate::Taken;
+use crate::Quotient;
 use blocks::Block;
+use refusals::Refusal;
 
 // The 64 bits of a block after the first used, extended by zeros.
 pub fn window(b: Block, used: usize) -> u64
@@ -45,15 +46,15 @@ fn run(w: u64) -> u32
 }
 
 // The word in front of w. Its run says how many digits follow the zero that stops it; a leading one goes before them.
-pub fn word(w: u64) -> Taken
+pub fn word(w: u64) -> Result<Option<Quotient>, Refusal>
     ensures { (z : Bool) (s : Bits) → ended z s ≡ false → number_of (first_bits z 64 s) ≡ w → result ≡ taken_from z s }
 {
     let r = run(w);
     if 31 < r {
-        return Taken::Long;
+        return Err(Refusal::OutOfRange);
     }
-    Taken::Quotient {
+    Ok(Some(Quotient {
         value: (((w << r) + 0x8000_0000_0000_0000) >> (63 - r)) as u32,
         characters: (2 * r + 1) as usize,
-    }
+    }))
 }
