@@ -1,5 +1,5 @@
 -- A column's bytes, four at a time, as parts of the string of its bits, and its block of three such parts.
-use Rattle.std.specs.Prelude.{◌≡◌, refl, false, List, [], ◌∷◌, ℕ, zero, suc, ◌+◌, ◌*◌, ◌-◌, ◌^◌, ◌≤◌, ◌<◌, length, get_or, take, drop}
+use Rattle.std.specs.Prelude.{◌≡◌, refl, false, List, [], ◌∷◌, ℕ, zero, suc, ◌+◌, ◌*◌, ◌-◌, ◌^◌, ◌≤◌, ◌<◌, length, get_or, take, drop, Result, Ok, Err}
 use Rattle.std.proofs.Common.{sym, ap, ◌∙◌, arith, eq-eqb, ne_eqb}
 use Rattle.std.proofs.Math.Seq.{drop-nil, drop-append-add}
 use Rattle.bits.specs.Binary.{number_of, first_bits, digits_in, bits_of_bytes}
@@ -9,7 +9,9 @@ use Rattle.bits.proofs.Columns.{byte-bits, byte-rest}
 use Rattle.bits.proofs.Sums.{number-first}
 use Rattle.bits.proofs.Memory.{lent_part}
 use Rattle.blocks.proofs.Laws.{block_made}
-use Rattle.load.specs.declared.Loaded.TheVariants.{Bits, WrongColumn}
+use Rattle.refusals.specs.declared.Refusal.{Refusal}
+use Rattle.refusals.specs.declared.Refusal.TheVariants.{WrongColumn}
+use Rattle.blocks.specs.declared.Block.{Block}
 use Rattle.load.specs.Loading.{loaded}
 
 -- the number of the first four bytes, top byte first
@@ -48,18 +50,18 @@ bits-drop (suc n) (a ∷ c) =
     ∙ sym (drop-append-add (digits_in 8 a) (bits_of_bytes c) (n * 8))
     ∙ ap (λ (m : ℕ). drop m (bits_of_bytes (a ∷ c))) eight
 
-pub column_wrong : (c : List ℕ) → (length c ≡ 12 → ⊥) → WrongColumn ≡ loaded c
+pub column_wrong : (c : List ℕ) → (length c ≡ 12 → ⊥) → Err WrongColumn ≡ loaded c
 unfolding loaded
 column_wrong c n = rw (ne_eqb (length c) 12 n)
 
 -- x, y and z are the column's three fours
 pub column-loaded : (c : List ℕ) {x y z : ℕ} → length c ≡ 12 → x ≡ four_bytes c
     → y ≡ four_bytes (take (length c - 4) (drop 4 c)) → z ≡ four_bytes (take (length c - 8) (drop 8 c))
-    → Bits record { high = x * 4294967296 + y; low = z } ≡ loaded c
+    → Ok record { high = x * 4294967296 + y; low = z } ≡ loaded c
 unfolding loaded
 column-loaded c {x} {y} {z} l e f g =
     let s = bits_of_bytes c in
     let second : y ≡ number_of (first_bits false 32 (drop 32 s)) = f ∙ rw (lent_part c 4, bits-drop 4 c) in
     let low : z ≡ number_of (first_bits false 32 (drop 64 s)) = g ∙ rw (lent_part c 8, bits-drop 8 c) in
     let high : x * 4294967296 + y ≡ number_of (first_bits false 64 s) = omega (arith, number-first false 32 32 s) in
-    rw (eq-eqb (length c) 12 l) (ap Bits (block_made s high low))
+    rw (eq-eqb (length c) 12 l) (ap {B = Result Block Refusal} Ok (block_made s high low))

@@ -10,29 +10,22 @@ ghost use Rattle.load.specs.Loading.{loaded};
 ghost use Rattle.outcomes.specs.Refusals.{first_strange};
 
 use blocks::Block;
+use refusals::Refusal;
 
 mod bytes;
 mod eights;
 
-#[derive(Clone, Copy)]
-pub enum Loaded {
-    Bits { block: Block },
-    WrongColumn,
-}
-
 // A column's 96 bits.
-pub fn load_column(c: &[u8]) -> Loaded
+pub fn load_column(c: &[u8]) -> Result<Block, Refusal>
     ensures { result ≡ loaded c.now }
 {
     if c.len() != 12 {
-        return Loaded::WrongColumn;
+        return Err(Refusal::WrongColumn);
     }
-    Loaded::Bits {
-        block: Block {
-            high: bytes::four(c) * 4294967296 + bytes::four(&c[4..]),
-            low: bytes::four(&c[8..]) as u32,
-        },
-    }
+    Ok(Block {
+        high: bytes::four(c) * 4294967296 + bytes::four(&c[4..]),
+        low: bytes::four(&c[8..]) as u32,
+    })
 }
 
 // Up to 64 characters as bits from the top of a machine word down: groups first, then one at a time what they leave. An
