@@ -10,5 +10,4 @@ pub mod Stocking
 pub mod Typing
 pub mod Listing
 pub mod BlockOrder
-pub mod Buffers
 pub mod Laws
