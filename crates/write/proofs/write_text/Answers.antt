@@ -1,13 +1,18 @@
--- Each way is what spelling and putting out gave, by `specs/Replies.antt`.
-use Rattle.std.proofs.Common.{ap, ◌∙◌, rules}
-use Rattle.outcomes.specs.Outcomes.{Answer, leaves}
-use Rattle.write.specs.Replies.{text-zero, text-told}
+-- Each way is what spelling and putting out gave, by `proofs/Replies.antt`.
+use Rattle.std.proofs.Common.{rules}
+use Rattle.std.proofs.lemmas.Result.{err_from_is_err_and}
+use Rattle.write.proofs.Replies.{text-zero, text-told}
 use Rattle.write.proofs.write_text.Goals as goal
 
-pub returns-in-ZeroDenominator : goal.returns-in-ZeroDenominator
-returns-in-ZeroDenominator c = text-zero _ _ _ c.in-ZeroDenominator.ensures
+pub returns-in_err-key : goal.returns-in_err-key
+returns-in_err-key c =
+    let p = err_from_is_err_and c.from_residual.result c.from_residual.ensures.1 in
+    rw (p.1, p.2) (text-zero _ _ _ c.in_err-key.ensures)
 
-pub returns-in-Key : goal.returns-in-Key
-returns-in-Key c =
-    ap (λ (a : Answer). leaves a c.put_text.new.out) c.answered.ensures
-    ∙ text-told _ _ (search rules) (search rules) _ _ _ c.in-Key.ensures _ _ _ c.put_text.ensures
+pub returns-in_err-characters : goal.returns-in_err-characters
+returns-in_err-characters c =
+    let p = err_from_is_err_and c.from_residual-in_err-characters.result c.from_residual-in_err-characters.ensures.1 in
+    rw (p.1, p.2) (text-told _ _ (search rules) (search rules) _ c.in_ok-key.ensures _ _ _ c.in_err-characters.ensures)
+
+pub returns : goal.returns
+returns c = text-told _ _ (search rules) (search rules) _ c.in_ok-key.ensures _ _ _ c.in_ok-characters.ensures
