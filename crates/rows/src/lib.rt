@@ -7,17 +7,15 @@ ghost use Rattle.tables.specs.Moves.{put_at};
 
 use tables::Row;
 
-mod row;
-
-// The bytes of a row.
-const ROW: usize = 12;
-
 // A row as row i; nothing where memory has no such row.
 pub fn put(m: &mut [u8], i: usize, row: Row)
     ensures { m.new ≡ put_at stock_rows i row m.old }
 {
-    if m.len() / ROW <= i {
+    if m.len() / Row::SIZE <= i {
         return;
     }
-    row::put_from(m, ROW * i, row);
+    let at = Row::SIZE * i;
+    m[at..at + 4].copy_from_slice(&row.numerator.to_le_bytes());
+    m[at + 4..at + 8].copy_from_slice(&row.denominator.to_le_bytes());
+    m[at + 8..at + 12].copy_from_slice(&row.quantity.to_le_bytes());
 }
