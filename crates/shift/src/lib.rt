@@ -1,28 +1,11 @@
 // Rows inserted and removed in the memory of a stock table. Where memory has no such row, nothing is done.
 #![tactic(auto)]
 
-ghost use Rattle.std.specs.Prelude.{◌≡◌, ◌+◌, ◌-◌, ◌≤◌, length, take, drop};
-ghost use Rattle.bits.specs.Texts.{pasted};
+ghost use Rattle.std.specs.Prelude.{◌≡◌};
 ghost use Rattle.tables.specs.Layouts.{stock_rows};
 ghost use Rattle.tables.specs.Moves.{inserted_at, removed_at};
 
 use tables::Row;
-
-// The bytes of a row.
-const ROW: usize = 12;
-
-// The bytes from at to last move up by a row, the last first. The compiler moves many at a time.
-fn raise(m: &mut [u8], at: usize, last: usize)
-    requires at_le_last { at ≤ last }
-    requires last_in_bounds { last + 12 ≤ length m.old }
-    ensures { m.new ≡ pasted (take (last - at) (drop at m.old)) (at + 12) m.old }
-{
-    let mut i = last;
-    while at < i {
-        i -= 1;
-        m[i + ROW] = m[i];
-    }
-}
 
 // A row as row i; the rows from there to used move up by one.
 pub fn insert(m: &mut [u8], i: usize, used: usize, row: Row)
@@ -31,24 +14,11 @@ pub fn insert(m: &mut [u8], i: usize, used: usize, row: Row)
     if used < i {
         return;
     }
-    if m.len() / ROW <= used {
+    if m.len() / Row::SIZE <= used {
         return;
     }
-    raise(m, ROW * i, ROW * used);
+    m.copy_within(Row::SIZE * i..Row::SIZE * used, Row::SIZE * (i + 1));
     rows::put(m, i, row);
-}
-
-// The bytes from at to last become those of a row further on, the first first.
-fn lower(m: &mut [u8], at: usize, last: usize)
-    requires at_le_last { at ≤ last }
-    requires last_in_bounds { last + 12 ≤ length m.old }
-    ensures { m.new ≡ pasted (take (last - at) (drop (at + 12) m.old)) at m.old }
-{
-    let mut i = at;
-    while i < last {
-        m[i] = m[i + ROW];
-        i += 1;
-    }
 }
 
 // Row i goes: the used rows behind it move down by one, and the last of them is zeroed.
@@ -58,18 +28,9 @@ pub fn remove(m: &mut [u8], i: usize, used: usize)
     if used <= i {
         return;
     }
-    if m.len() / ROW < used {
+    if m.len() / Row::SIZE < used {
         return;
     }
-    let last = used - 1;
-    lower(m, ROW * i, ROW * last);
-    rows::put(
-        m,
-        last,
-        Row {
-            numerator: 0,
-            denominator: 0,
-            quantity: 0,
-        },
-    );
+    m.copy_within(Row::SIZE * (i + 1)..Row::SIZE * used, Row::SIZE * i);
+    m[Row::SIZE * (used - 1)..Row::SIZE * used].fill(0);
 }

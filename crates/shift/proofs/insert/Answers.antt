@@ -14,4 +14,4 @@ unfolding inserted_at
 returns-then-m-used c = rw (le-ltb _ _ c.if-used-i.false, le-ltb _ _ c.if-m-used.true)
 
 pub returns : goal.returns
-returns c = inserted _ _ _ (omega arith) (omega arith) _ c.raise.ensures c.put.ensures
+returns c = inserted _ _ _ (omega arith) (omega arith) _ c.copy_within.ensures.after c.put.ensures

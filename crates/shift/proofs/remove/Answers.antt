@@ -1,5 +1,5 @@
 -- Those behind the row are lowered, and zeros are put.
-use Rattle.std.proofs.Common.{arith}
+use Rattle.std.proofs.Common.{◌≡◌, ◌-◌, ◌*◌, take, drop, length, arith, length-drop, length-take-le}
 use borrow.Author.Tests.{lt-ltb, le-ltb}
 use Rattle.tables.specs.Moves.{removed_at}
 use Rattle.shift.specs.Shifting.{removed}
@@ -14,4 +14,9 @@ unfolding removed_at
 returns-then-m-used c = rw (lt-ltb _ _ c.if-used-i.false, lt-ltb _ _ c.if-m-used.true)
 
 pub returns : goal.returns
-returns c = removed _ _ _ (omega arith) (omega arith) c.lower.ensures c.put.ensures
+returns c =
+    let row : 12 * c.args.used - 12 * (c.args.used - 1) ≡ 12 = omega arith in
+    let size : length (take 12 (drop (12 * (c.args.used - 1)) c.copy_within.new.self)) ≡ 12 =
+    length-take-le 12 _ (rw length-drop (omega (arith, c.copy_within.ensures.len))) in
+    let zeros = rw (row, size) at c.fill.ensures.after (λ y h. h) in
+    removed _ _ _ (omega arith) (omega arith) c.copy_within.ensures.after (rw (row, zeros))
