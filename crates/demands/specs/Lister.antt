@@ -14,7 +14,7 @@ use Rattle.outcomes.specs.Typing.{before_slash, after_slash, numerator_of, denom
 use Rattle.outcomes.specs.Typing.{malformed, large_numeral, typed_ratio}
 use Rattle.outcomes.specs.Listing.{line_answer, listing}
 use Rattle.fields.specs.Fields.{fed_by, typed_of}
-use Rattle.fields.specs.Answers.{typed_as}
+use Rattle.refusals.specs.Answers.{answered, terms_as}
 use Rattle.fields.specs.declared.Field.{Field}
 use Rattle.fields.specs.declared.Field.TheVariants.{Empty}
 use Rattle.list.specs.Ratios.{ratios}
@@ -48,7 +48,7 @@ pub record Lister : Type 0 where
   pub no_other : (l : List ℕ) → (malformed l).1 ≡ false → IsRatio l (before_slash l) (after_slash l)
   pub line : (l : List ℕ) → Answered l (numerator_of l) (denominator_of l)
   -- Fed byte by byte, a line is settled as its bytes say.
-  pub settled : (l : List ℕ) → leaves (typed_as (typed_of (foldl fed_by Empty l))) [] ≡ typed_ratio l
+  pub settled : (l : List ℕ) → leaves (answered 2 terms_as (typed_of (foldl fed_by Empty l))) [] ≡ typed_ratio l
   -- A whole input: what stands before a newline is a line; what stands behind the last one is a line if there is
   -- anything.
   pub empty : listing [] ≡ []

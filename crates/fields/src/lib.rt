@@ -2,154 +2,131 @@
 // to hold: a numeral of more than ten digits makes the whole malformed, and one over the limit stops growing.
 #![tactic(auto)]
 
-ghost use Rattle.std.specs.Prelude.{◌≡◌};
-ghost use Rattle.fields.specs.Fields.{grown, fed_digit, fed_slash, feed_of, is_blank, typed_of};
+ghost use Rattle.std.specs.Prelude.{◌≡◌, cond, ltb};
+ghost use Rattle.fields.specs.Fields.{longer, fed_digit, fed_slash, feed_of, is_blank, typed_of};
+
+use fractions::Fraction;
+use refusals::Refusal;
+
+// What was fed of a numeral so far.
+#[derive(Clone, Copy)]
+pub struct Numeral {
+    pub digits: u32,
+    pub value: u64,
+}
+
+impl Numeral {
+    // One digit further, if there are fewer than ten. Over the limit the value stays, so that it always fits.
+    fn longer(self, digit: u8) -> Option<Numeral>
+        ensures { result ≡ cond (ltb self.digits 10) (Some (longer self digit)) None }
+    {
+        if self.digits >= 10 {
+            return None;
+        }
+        let value = if self.value > u32::MAX as u64 {
+            self.value
+        } else {
+            self.value * 10 + digit as u64
+        };
+        Some(Numeral {
+            digits: self.digits + 1,
+            value,
+        })
+    }
+}
 
 // What was fed so far: nothing; digits; digits, a slash and perhaps digits; or what no ratio begins with.
 #[derive(Clone, Copy)]
 pub enum Field {
     Empty,
-    First { digits: u32, value: u64 },
-    Second { first: u64, digits: u32, value: u64 },
+    First(Numeral),
+    Second {
+        numerator: u64,
+        denominator: Numeral,
+    },
     Bad,
 }
 
-// A byte more in the field, or the end of its line.
-#[derive(Clone, Copy)]
-pub enum Fed {
-    Within(Field),
-    Ended,
-}
-
-// The ratio that was typed, not reduced.
-#[derive(Clone, Copy)]
-pub enum Typed {
-    Ratio { numerator: u32, denominator: u32 },
-    Malformed,
-    TooLarge,
-}
-
-// A numeral's value, one digit further. Over the limit it stays, so that it always fits.
-fn grow(value: u64, digit: u8) -> u64
-    ensures { result ≡ grown value digit }
-{
-    if 4_294_967_295 < value {
-        value
-    } else {
-        value * 10 + digit as u64
-    }
-}
-
-fn feed_digit(field: Field, digit: u8) -> Field
-    ensures { result ≡ fed_digit field digit }
-{
-    match field {
-        Field::Empty => Field::First {
-            digits: 1,
-            value: digit as u64,
-        },
-        Field::First { digits, value } => {
-            if digits < 10 {
-                Field::First {
-                    digits: digits + 1,
-                    value: grow(value, digit),
-                }
-            } else {
-                Field::Bad
-            }
+impl Field {
+    fn feed_digit(self, digit: u8) -> Field
+        ensures { result ≡ fed_digit self digit }
+    {
+        match self {
+            Field::Empty => Field::First(Numeral {
+                digits: 1,
+                value: digit as u64,
+            }),
+            Field::First(numeral) => match numeral.longer(digit) {
+                Some(numeral) => Field::First(numeral),
+                None => Field::Bad,
+            },
+            Field::Second {
+                numerator,
+                denominator,
+            } => match denominator.longer(digit) {
+                Some(denominator) => Field::Second {
+                    numerator,
+                    denominator,
+                },
+                None => Field::Bad,
+            },
+            Field::Bad => Field::Bad,
         }
-        Field::Second {
-            first,
-            digits,
-            value,
-        } => {
-            if digits < 10 {
-                Field::Second {
-                    first,
-                    digits: digits + 1,
-                    value: grow(value, digit),
-                }
-            } else {
-                Field::Bad
-            }
+    }
+
+    fn feed_slash(self) -> Field
+        ensures { result ≡ fed_slash self }
+    {
+        match self {
+            Field::First(numeral) => Field::Second {
+                numerator: numeral.value,
+                denominator: Numeral {
+                    digits: 0,
+                    value: 0,
+                },
+            },
+            _ => Field::Bad,
         }
-        Field::Bad => Field::Bad,
     }
-}
 
-fn feed_slash(field: Field) -> Field
-    ensures { result ≡ fed_slash field }
-{
-    match field {
-        Field::Empty => Field::Bad,
-        Field::First { digits: _, value } => Field::Second {
-            first: value,
-            digits: 0,
-            value: 0,
-        },
-        Field::Second {
-            first: _,
-            digits: _,
-            value: _,
-        } => Field::Bad,
-        Field::Bad => Field::Bad,
+    // The field after one byte more, a digit, a slash or anything else; none where a newline ended the line.
+    pub fn feed(self, byte: u8) -> Option<Field>
+        ensures { result ≡ feed_of self byte }
+    {
+        match byte {
+            b'\n' => None,
+            b'0'..=b'9' => Some(self.feed_digit(byte - b'0')),
+            b'/' => Some(self.feed_slash()),
+            _ => Some(Field::Bad),
+        }
     }
-}
 
-// The field after one byte more, which is a digit, a slash, a newline or anything else.
-pub fn feed(field: Field, byte: u8) -> Fed
-    ensures { result ≡ feed_of field byte }
-{
-    match byte {
-        48..=57 => Fed::Within(feed_digit(field, byte - 48)),
-        47 => Fed::Within(feed_slash(field)),
-        10 => Fed::Ended,
-        _ => Fed::Within(Field::Bad),
+    // Whether nothing was fed yet.
+    pub fn is_blank(self) -> bool
+        ensures { result ≡ is_blank self }
+    {
+        matches!(self, Field::Empty)
     }
-}
 
-// Whether nothing was fed yet.
-pub fn is_blank(field: Field) -> bool
-    ensures { result ≡ is_blank field }
-{
-    match field {
-        Field::Empty => true,
-        Field::First {
-            digits: _,
-            value: _,
-        } => false,
-        Field::Second {
-            first: _,
-            digits: _,
-            value: _,
-        } => false,
-        Field::Bad => false,
-    }
-}
-
-// The ratio that was typed, if it is one and its numerals are within the limit.
-pub fn settle(field: Field) -> Typed
-    ensures { result ≡ typed_of field }
-{
-    let Field::Second {
-        first,
-        digits,
-        value,
-    } = field
-    else {
-        return Typed::Malformed;
-    };
-    if digits == 0 {
-        return Typed::Malformed;
-    }
-    if 4_294_967_295 < first {
-        return Typed::TooLarge;
-    }
-    if 4_294_967_295 < value {
-        return Typed::TooLarge;
-    }
-    Typed::Ratio {
-        numerator: first as u32,
-        denominator: value as u32,
+    // The ratio that was typed, not reduced, if it is one and its numerals are within the limit.
+    pub fn settle(self) -> Result<Fraction, Refusal>
+        ensures { result ≡ typed_of self }
+    {
+        let Field::Second {
+            numerator,
+            denominator,
+        } = self
+        else {
+            return Err(Refusal::Malformed);
+        };
+        if denominator.digits == 0 {
+            return Err(Refusal::Malformed);
+        }
+        let numerator = u32::try_from(numerator).map_err(|_| Refusal::OutOfRange)?;
+        let denominator = u32::try_from(denominator.value).map_err(|_| Refusal::OutOfRange)?;
+        Ok(Fraction {
+            numerator,
+            denominator,
+        })
     }
 }
