@@ -1,14 +1,19 @@
 -- What a judgement tells a call that judges a text key first: its outcome where there is a fault, and else that the
--- rest of its refusals decide.
+-- rest of its refusals decide. A call that judges by `?` states `told_on` for its own outcome, with the six arguments
+-- before the result written out, and cites that at the exit with `c.in_err-judge.ensures` and `c.from_residual.ensures.1`;
+-- behind the `?`, `c.in_ok-judge.ensures` is what `told-key` takes.
 use Rattle.std.specs.Prelude.{◌≡◌, refl, Bool, true, false, cond, List, [], length, Result, Ok, Err}
 use Rattle.std.proofs.Common.{sym, ltb-false}
 use Prim.Native.Nat.{ℕ, ◌-◌, ◌≤◌}
-use Rattle.outcomes.specs.Outcomes.{Outcome, Refusal, refuses, called}
+use Rattle.std.specs.Result.{IsErrAnd}
+use Rattle.outcomes.specs.Outcomes.{Outcome, Refusal, leaves, refuses, called}
 use Rattle.outcomes.specs.Laws.{Clear}
 use Rattle.outcomes.proofs.Laws.{gives-clear}
 use Rattle.outcomes.specs.Refusals.{first_strange, empty_key, long_key, strange_key, open_key, key_refusals}
+use Rattle.refusals.specs.declared.Refusal as reasons
 use Rattle.refusals.specs.declared.Refusal.TheVariants.{EmptyKey, LongKey, StrangeKey, OpenKey}
 use Rattle.refusals.specs.Numbers.{number_of}
+use Rattle.refusals.specs.Answers.{answered}
 use Rattle.scan.specs.declared.Fault.{Fault}
 use Rattle.scan.specs.Judging.{fault, judgement}
 
@@ -42,6 +47,12 @@ module _ (k : List ℕ) (more : List Refusal) (values before after : List ℕ) w
 
   pub told_faulty : (f : Fault) → Err f ≡ judgement k → refuses (number_of f.refusal) (length values) before ≡ whole
   told_faulty f e = told (Err f) e
+
+  -- the same of a result r that a `?` hands on, whose refusal is the fault's
+  pub told_on : {X : Type 0} (said : X → List ℕ) (r : Result X reasons.Refusal) (f : Fault) → Err f ≡ judgement k
+      → IsErrAnd r (λ d. d ≡ f.refusal) → leaves (answered (length values) said r) before ≡ whole
+  told_on said (Ok x) f e h = absurd h
+  told_on said (Err d) f e h = rw h (told_faulty f e)
 
   pub told-key : Ok tt ≡ judgement k → (length k ≤ 96) × (rest ≡ whole)
   told-key e = told (Ok tt) e
