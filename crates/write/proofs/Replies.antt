@@ -22,6 +22,11 @@ use Rattle.spell.specs.Callers.{Spells, told-zero, zero-spells, told-key, key-sp
 use Rattle.spell.specs.Spelling.{spelling}
 use Rattle.spell.specs.declared.Spelled.{Spelled}
 
+-- a denominator of 0 comes before a short buffer
+pub zero-told : (p q : ℕ) {e : Refusal} → Err e ≡ spelling p q → (size : ℕ) (m after : List ℕ)
+    → refuses (number_of e) 2 m ≡ called (zero_denominator q ∷ short_buffer size m ∷ []) (counts p q) m after
+zero-told p q h size m after = rw (zero-spells p q h) (told-zero p q _ _ h)
+
 module _ (p q : ℕ) (small : p < 2 ^ 32) (low : q < 2 ^ 32) (s : Spelled) (e : Ok s ≡ spelling p q) where
   abbrev key : Bits
   key = key_of words1983 p q
@@ -59,12 +64,3 @@ module _ (p q : ℕ) (small : p < 2 ^ 32) (low : q < 2 ^ 32) (s : Spelled) (e : 
       let bytes = bytes-same 12 (bits_of_block s.block) key (block-holds spells small low) in
       told 12 (column_of key) m r l
       (put ∙ λ i. cond (ltb (length m) 12) (Err WrongSize, m) (Ok (length (key-held i)), in_front (bytes i) m))
-
-module _ (p q : ℕ) (m : List ℕ) {e : Refusal} (h : Err e ≡ spelling p q) where
-  pub text-zero : refuses (number_of e) 2 m ≡ write_text p q m
-  unfolding write_text
-  text-zero = rw (zero-spells p q h) (told-zero p q _ _ h)
-
-  pub column-zero : refuses (number_of e) 2 m ≡ write_column p q m
-  unfolding write_column
-  column-zero = rw (zero-spells p q h) (told-zero p q _ _ h)
