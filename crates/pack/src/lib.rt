@@ -4,52 +4,23 @@
 ghost use Rattle.std.specs.Prelude.{◌≡◌};
 ghost use Rattle.outcomes.specs.Outcomes.{leaves};
 ghost use Rattle.outcomes.specs.Packing.{column_to_text, text_to_column};
-ghost use Rattle.pack.specs.Answers.{unpacked_as, packed_as};
+ghost use Rattle.refusals.specs.Answers.{answered, one_as, none_as};
 
-use load::Loaded;
-use scan::{Fault, Judged};
+use refusals::Refusal;
 
-#[derive(Clone, Copy)]
-pub enum Unpacked {
-    Key { characters: usize },
-    WrongColumn,
-    ShortBuffer,
-}
-
-#[derive(Clone, Copy)]
-pub enum Packed {
-    Column,
-    Faulty(Fault),
-    ShortBuffer,
-}
-
-// The text key of a column at the front of out.
-pub fn column_to_text(column: &[u8], out: &mut [u8]) -> Unpacked
-    ensures { leaves (unpacked_as result) out.new ≡ column_to_text column.now out.old }
+// The text key of a column at the front of out, and how many characters it has.
+pub fn column_to_text(column: &[u8], out: &mut [u8]) -> Result<usize, Refusal>
+    ensures { leaves (answered 1 one_as result) out.new ≡ column_to_text column.now out.old }
 {
-    match load::load_column(column) {
-        Loaded::WrongColumn => Unpacked::WrongColumn,
-        Loaded::Bits { block } => {
-            let characters = put::put_text(block, out);
-            if characters == 0 {
-                return Unpacked::ShortBuffer;
-            }
-            Unpacked::Key { characters }
-        }
-    }
+    let block = load::load_column(column)?;
+    put::put_text(block, out)
 }
 
 // The column of a text key at the front of out.
-pub fn text_to_column(k: &[u8], out: &mut [u8]) -> Packed
-    ensures { leaves (packed_as result) out.new ≡ text_to_column k.now out.old }
+pub fn text_to_column(k: &[u8], out: &mut [u8]) -> Result<(), Refusal>
+    ensures { leaves (answered 0 none_as result) out.new ≡ text_to_column k.now out.old }
 {
-    match scan::judge(k) {
-        Judged::Faulty { fault, at: _ } => Packed::Faulty(fault),
-        Judged::Key => {
-            if put::put_column(load::load_text(k), out) == 0 {
-                return Packed::ShortBuffer;
-            }
-            Packed::Column
-        }
-    }
+    scan::judge(k)?;
+    put::put_column(load::load_text(k), out)?;
+    Ok(())
 }

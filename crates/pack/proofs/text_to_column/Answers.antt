@@ -1,17 +1,20 @@
--- Each way is what judging, loading and putting out gave, by `proofs/Replies.antt`; the test of the count says which.
-use Rattle.std.proofs.Common.{eq-eqb, ne_eqb}
+-- A fault and a short buffer are handed on; each outcome is what judging, loading and putting out gave, by
+-- `proofs/Replies.antt`.
+use Rattle.std.proofs.lemmas.Result.{err_from_is_err_and}
 use Rattle.pack.proofs.Replies.{text_faulty, column-told}
 use Rattle.pack.proofs.text_to_column.Goals as goal
 
-pub returns-in-Faulty : goal.returns-in-Faulty
-returns-in-Faulty c = text_faulty _ _ _ _ c.in-Faulty.ensures
+pub returns-in_err-judge : goal.returns-in_err-judge
+returns-in_err-judge c =
+    let p = err_from_is_err_and c.from_residual.result c.from_residual.ensures.1 in
+    rw (p.1, p.2) (text_faulty _ _ _ c.in_err-judge.ensures)
 
-pub returns-then-put_column-eq0 : goal.returns-then-put_column-eq0
-returns-then-put_column-eq0 c =
-    rw (eq-eqb _ _ c.if-put_column-eq0.true) at
-    (column-told _ _ c.in-Key.ensures _ c.load_text.ensures _ _ c.put_column.ensures)
+pub returns-in_err-put_column : goal.returns-in_err-put_column
+returns-in_err-put_column c =
+    let r = c.from_residual-in_err-put_column in
+    let p = err_from_is_err_and r.result r.ensures.1 in
+    rw (p.1, p.2)
+    (column-told _ _ c.in_ok-judge.ensures _ c.load_text.ensures _ _ c.in_err-put_column.ensures)
 
-pub returns-else-put_column-eq0 : goal.returns-else-put_column-eq0
-returns-else-put_column-eq0 c =
-    rw (ne_eqb _ _ c.if-put_column-eq0.false) at
-    (column-told _ _ c.in-Key.ensures _ c.load_text.ensures _ _ c.put_column.ensures)
+pub returns : goal.returns
+returns c = column-told _ _ c.in_ok-judge.ensures _ c.load_text.ensures _ _ c.in_ok-put_column.ensures
