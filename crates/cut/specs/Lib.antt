@@ -1,4 +1,1 @@
-pub mod Answers
-pub mod Copying
 pub mod Kept
-pub mod Replies

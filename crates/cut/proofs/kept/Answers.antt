@@ -1,10 +1,10 @@
--- The last character left is the 1 that stays, or it is dropped.
-use Rattle.std.proofs.Common.{arith}
-use Rattle.cut.specs.Kept.{left-less, kept_one}
+-- What is kept ends at the last 1, or at the first character.
+use Rattle.std.proofs.Common.{◌∙◌}
+use Rattle.cut.proofs.Ends.{kept_one, kept_first}
 use Rattle.cut.proofs.kept.Goals as goal
 
-pub returns-then-k-m-eq49 : goal.returns-then-k-m-eq49
-returns-then-k-m-eq49 c = kept_one c.loop-m.invariant (omega arith) 0 (omega arith)
+pub returns-in-Some : goal.returns-in-Some
+returns-in-Some c = kept_one c.args.k.now c.args.n c.min-m.ensures c.in-Some.ensures
 
-pub loop-m-preserved : goal.loop-m-preserved
-loop-m-preserved c = left-less c.loop-m.invariant (omega arith) 0 (λ e. omega arith)
+pub returns-in-None : goal.returns-in-None
+returns-in-None c = c.min.ensures ∙ kept_first c.args.k.now c.args.n c.min-m.ensures c.in-None.ensures

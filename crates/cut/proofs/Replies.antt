@@ -1,5 +1,6 @@
 -- What cutting answers, by what judging, counting and copying gave.
-use Rattle.std.specs.Prelude.{◌≡◌, ◌⊎◌, List, [], ◌∷◌, ℕ, ◌≤◌, ◌<◌, length, take}
+use Rattle.std.specs.Prelude.{◌≡◌, ◌⊎◌, List, [], ◌∷◌, ℕ, ◌≤◌, ◌<◌, length, take, Result, Ok, Err}
+use Rattle.std.specs.Result.{IsErrAnd}
 use Rattle.std.proofs.Common.{sym, ◌∙◌, ap, arith, lt-ltb, le-ltb, length-take, take-take}
 use Rattle.std.proofs.lemmas.List.{length-map}
 use Rattle.bits.specs.Strings.{Bits}
@@ -7,14 +8,15 @@ use Rattle.bits.specs.Texts.{char_of, text_of, bits_of_text, in_front}
 use Rattle.bits.proofs.Trim.{closed-length, closed-take}
 use Rattle.bits.proofs.Pieces.{take-map}
 use Rattle.keys.specs.Keys.{cut_to}
-use Rattle.outcomes.specs.Outcomes.{Refusal, gives, refuses, called}
+use Rattle.outcomes.specs.Outcomes.{Refusal, leaves, gives, refuses, called}
 use Rattle.outcomes.specs.Refusals.{short_buffer, outside}
 use Rattle.outcomes.proofs.TextKeys.{clear-canonical}
 use Rattle.outcomes.specs.Cutting.{cut_text}
 use Rattle.outcomes.proofs.Cuts.{inside, beyond}
-use Rattle.scan.specs.Judging.{judgement, number_of_fault}
-use Rattle.scan.proofs.Callers.{told_faulty, told-key, judged-clear}
-use Rattle.scan.specs.declared.Judged.TheVariants.{Key, Faulty}
+use Rattle.refusals.specs.declared.Refusal as reasons
+use Rattle.refusals.specs.Answers.{answered, one_as}
+use Rattle.scan.proofs.Callers.{told_on, told-key, judged-clear}
+use Rattle.scan.specs.Judging.{judgement}
 use Rattle.scan.specs.declared.Fault.{Fault}
 
 -- no more characters are kept than are asked for, nor than there are
@@ -34,11 +36,12 @@ module _ (k : List ℕ) (n : ℕ) (m : List ℕ) where
   abbrev more : List Refusal
   more = outside 96 n ∷ short_buffer 96 m ∷ []
 
-  pub cut_faulty : (f : Fault) (at : ℕ) → Faulty f at ≡ judgement k → refuses (number_of_fault f) 1 m ≡ cut_text k n m
+  pub cut_faulty : (r : Result ℕ reasons.Refusal) (f : Fault) → Err f ≡ judgement k → IsErrAnd r (λ d. d ≡ f.refusal)
+      → leaves (answered 1 one_as r) m ≡ cut_text k n m
   unfolding cut_text
-  cut_faulty = told_faulty k more (length key ∷ []) m after
+  cut_faulty = told_on k more (length key ∷ []) m after one_as
 
-  module _ (e : Key ≡ judgement k) where
+  module _ (e : Ok tt ≡ judgement k) where
     judged : (length k ≤ 96) × (called more (length key ∷ []) m after ≡ cut_text k n m)
     unfolding cut_text
     judged = told-key k more (length key ∷ []) m after e

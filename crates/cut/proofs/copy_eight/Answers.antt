@@ -1,7 +1,0 @@
--- The eight stores are the first eight characters put in front.
-use Rattle.std.proofs.Common.{arith}
-use Rattle.cut.specs.Copying.{chars_stored}
-use Rattle.cut.proofs.copy_eight.Goals as goal
-
-pub returns : goal.returns
-returns c = chars_stored c.args.k.now c.args.out.now 8 (omega arith) (omega arith)
