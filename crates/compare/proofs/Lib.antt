@@ -1,3 +1,4 @@
 pub mod Bytes
 pub mod KeyOrder
 pub mod Replies
+pub mod Told

@@ -1,26 +1,13 @@
--- The scope's number and values for each answer of comparing; and that these tell the answer.
-use Rattle.std.specs.Prelude.{◌≡◌, refl, cond, [], ◌∷◌, eqb, get_or}
-use Rattle.outcomes.specs.Outcomes.{Answer, given, refused}
+-- The scope's number for each way in which two keys stand, and the way that a number stands for.
+use Rattle.std.specs.Prelude.{cond, List, [], ◌∷◌, ℕ, eqb, get_or}
+use Rattle.std.specs.declared.cmp.Ordering.{Ordering}
+use Rattle.std.specs.declared.cmp.Ordering.TheVariants.{Less, Equal, Greater}
 use Rattle.outcomes.specs.Comparing.{before, same, after}
-use Rattle.scan.specs.Judging.{number_of_fault, fault_of}
-use Rattle.scan.proofs.Callers.{fault_told}
-use Rattle.compare.specs.declared.Compared.{Compared}
-use Rattle.compare.specs.declared.Compared.TheVariants.{Before, Same, After, Faulty}
 
-abbrev pub compared_as : Compared → Answer
-compared_as Before = given (before ∷ [])
-compared_as Same = given (same ∷ [])
-compared_as After = given (after ∷ [])
-compared_as (Faulty f) = refused (number_of_fault f) 1
+abbrev pub standing_as : Ordering → List ℕ
+standing_as Less = before ∷ []
+standing_as Equal = same ∷ []
+standing_as Greater = after ∷ []
 
-abbrev pub compared_of : Answer → Compared
-compared_of a =
-    let n = get_or a.values 0 0 in
-    cond (eqb a.refusal 0) (cond (eqb n before) Before (cond (eqb n same) Same After))
-    (Faulty (fault_of a.refusal))
-
-pub compared-told : (r : Compared) → compared_of (compared_as r) ≡ r
-compared-told Before = refl
-compared-told Same = refl
-compared-told After = refl
-compared-told (Faulty f) = fault_told (λ n. compared_of (refused n 1)) Faulty refl refl refl refl f
+abbrev pub standing_in : List ℕ → Ordering
+standing_in l = let n = get_or l 0 0 in cond (eqb n before) Less (cond (eqb n same) Equal Greater)

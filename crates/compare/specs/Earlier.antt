@@ -1,11 +1,11 @@
 -- What the earlier of two lent keys is: one of the two references themselves, or an empty part of the first, whose
 -- address and characters are known.
-use Rattle.std.specs.Prelude.{◌≡◌, refl, ◌⊎◌, List, [], ◌∷◌, ℕ, ◌≤◌, get_or}
-use Rattle.std.proofs.Common.{sym, ◌∙◌, ap, inl, inr, arith}
+use Rattle.std.specs.Prelude.{◌≡◌, refl, ◌⊎◌, List, [], ◌∷◌, ℕ}
+use Rattle.std.proofs.Common.{sym, ◌∙◌, inl, inr}
 use Rattle.std.specs.Borrow.{Bor}
 use Rattle.bits.specs.Strings.{Bits}
 use Rattle.bits.specs.Texts.{bits_of_text}
-use Rattle.outcomes.specs.Outcomes.{Outcome, Answer, leaves, gives}
+use Rattle.outcomes.specs.Outcomes.{Outcome, gives}
 use Rattle.outcomes.specs.Comparing.{before, same, after, standing, compare_text}
 use Rattle.outcomes.proofs.Laws.{given_or_refused}
 use Rattle.outcomes.proofs.Standings.{Says, says_before, says_same, says_after, says-standing}
@@ -17,39 +17,6 @@ pub record Earlier (j k r : Bor (List ℕ)) : Type 0 where
   pub if_same : compare_text j.now k.now ≡ gives (same ∷ []) [] → r ≡ j
   pub if_after : compare_text j.now k.now ≡ gives (after ∷ []) [] → r ≡ k
   pub if_refused : ((compare_text j.now k.now).refusal ≡ 0 → ⊥) → (r.ref_ptr ≡ j.ref_ptr) × (r.now ≡ [])
-
--- each answer of comparing makes one of the three the earlier key
-module _ (j k : Bor (List ℕ)) (a : Answer) (told : leaves a [] ≡ compare_text j.now k.now) where
-  value : (n : ℕ) → compare_text j.now k.now ≡ gives (n ∷ []) [] → get_or a.values 0 0 ≡ n
-  value n e = ap (λ (o : Outcome). get_or o.values 0 0) (told ∙ e)
-
-  number : a.refusal ≡ (compare_text j.now k.now).refusal
-  number = ap (λ (o : Outcome). o.refusal) told
-
-  pub first-earlier : a.refusal ≡ 0 → get_or a.values 0 0 ≤ same → Earlier j k j
-  first-earlier z l = record {
-    if_before = λ e. refl;
-    if_same = λ e. refl;
-    if_after = λ e. absurd (omega (arith, value after e));
-    if_refused = λ n. absurd (n (sym number ∙ z));
-  }
-
-  pub second_earlier : a.refusal ≡ 0 → get_or a.values 0 0 ≡ after → Earlier j k k
-  second_earlier z v = record {
-    if_before = λ e. absurd (omega (arith, value before e));
-    if_same = λ e. absurd (omega (arith, value same e));
-    if_after = λ e. refl;
-    if_refused = λ n. absurd (n (sym number ∙ z));
-  }
-
-  pub none_earlier : get_or a.values 0 0 ≡ 0
-      → Earlier j k (record { ref_ptr = j.ref_ptr; now = [] })
-  none_earlier v = record {
-    if_before = λ e. absurd (omega (arith, value before e));
-    if_same = λ e. absurd (omega (arith, value same e));
-    if_after = λ e. absurd (omega (arith, value after e));
-    if_refused = λ n. (refl, refl);
-  }
 
 compared : (j k : List ℕ)
     → (compare_text j k ≡ gives (standing (bits_of_text j) (bits_of_text k) ∷ []) []) ⊎ ((compare_text j k).refusal ≡ 0 → ⊥)
