@@ -1,5 +1,5 @@
 -- What judging a table gives.
-use Rattle.std.specs.Prelude.{Bool, false, cond, not, List, ℕ, ◌+◌, eqb}
+use Rattle.std.specs.Prelude.{Bool, false, cond, not, List, ℕ, ◌+◌, eqb, Result, Ok, Err}
 use Rattle.blocks.specs.declared.Block.{Block}
 use Rattle.blocks.specs.Blocks.{block_of}
 use Rattle.families.proofs.Published.{words1983}
@@ -11,8 +11,8 @@ use Rattle.tables.specs.Sound.{sound}
 use Rattle.tables.specs.Stocks.{passed}
 use Rattle.outcomes.specs.BlockOrder.{block_below}
 use Rattle.outcomes.specs.Stocking.{wrong_table, unsound_table}
-use Rattle.judge.specs.declared.Judged.{Judged}
-use Rattle.judge.specs.declared.Judged.TheVariants.{Sound, WrongTable, Unsound}
+use Rattle.refusals.specs.declared.Refusal.{Refusal}
+use Rattle.refusals.specs.declared.Refusal.TheVariants.{WrongSize, UnsoundTable}
 
 abbrev pub block_of_row : Row → Block
 block_of_row r = block_of (key_of words1983 r.numerator r.denominator)
@@ -28,11 +28,11 @@ falls_at i last block = cond (eqb i 0) false (not (block_below last block))
 abbrev pub passed_at : ℕ → ℕ → Block → Block → ℕ
 passed_at below i block key = cond (eqb below i) (cond (block_below block key) (i + 1) below) below
 
-unfoldable pub judged_rows : Block → List Row → Judged
-judged_rows key rows = cond (sound rows) (Sound (passed (row_before key) rows)) Unsound
+unfoldable pub judged_rows : Block → List Row → Result ℕ Refusal
+judged_rows key rows = cond (sound rows) (Ok (passed (row_before key) rows)) (Err UnsoundTable)
 
-unfoldable pub judged : Block → ℕ → List ℕ → Judged
+unfoldable pub judged : Block → ℕ → List ℕ → Result ℕ Refusal
 judged key used m =
-    cond (wrong_table stock_rows m).1 WrongTable
-    (cond (unsound_table stock_rows used m).1 Unsound
-    (Sound (passed (row_before key) (rows_in (row_size stock_rows) used m))))
+    cond (wrong_table stock_rows m).1 (Err WrongSize)
+    (cond (unsound_table stock_rows used m).1 (Err UnsoundTable)
+    (Ok (passed (row_before key) (rows_in (row_size stock_rows) used m))))

@@ -1,5 +1,5 @@
 -- The rows at the front that stand before a key, counted row by row; and what judging answers then.
-use Rattle.std.specs.Prelude.{◌≡◌, Bool, not, ◌&&◌, List, ◌∷◌, ℕ, suc, ◌+◌, ◌*◌, ◌-◌, ◌≤◌, ◌<◌, eqb, drop}
+use Rattle.std.specs.Prelude.{◌≡◌, Bool, not, ◌&&◌, List, ◌∷◌, ℕ, suc, ◌+◌, ◌*◌, ◌-◌, ◌≤◌, ◌<◌, eqb, drop, Ok, Err}
 use Rattle.std.proofs.Math.Path.{refl}
 use Rattle.std.proofs.Common.{sym, ◌∙◌, add-one, arith}
 use Rattle.std.proofs.Math.Bool.{true, false, cond}
@@ -13,7 +13,7 @@ use Rattle.tables.specs.Rows.{room_of, row_of, rows_in}
 use Rattle.tables.specs.Sound.{sound}
 use Rattle.tables.specs.Stocks.{passed}
 use Rattle.tables.proofs.Tables.{rows_from, rows-next, rows-end, plain-fits}
-use Rattle.judge.specs.declared.Judged.TheVariants.{Sound, WrongTable, Unsound}
+use Rattle.refusals.specs.declared.Refusal.TheVariants.{WrongSize, UnsoundTable}
 use Rattle.judge.specs.Judging.{block_of_row, row_before, passed_at, judged_rows, judged}
 
 module _ (key : Block) (m : List ℕ) (used : ℕ) where
@@ -65,9 +65,9 @@ module _ (key : Block) (m : List ℕ) (used : ℕ) where
 
   -- what judging the rows answers
   pub passing-end : (below i : ℕ) → Passing below i → used ≤ i → sound (rows_in 12 used m) ≡ true
-      → Sound below ≡ judged_rows key (rows_in 12 used m)
+      → Ok below ≡ judged_rows key (rows_in 12 used m)
   unfolding judged_rows passed
-  passing-end below i g h fine = rw fine λ j. Sound (sym (by_size (dec_lt below i)) j)
+  passing-end below i g h fine = rw fine λ j. Ok (sym (by_size (dec_lt below i)) j)
     where
       by_size : Dec (below < i) → all ≡ below
       by_size (yes less) = g.ended less
@@ -75,17 +75,17 @@ module _ (key : Block) (m : List ℕ) (used : ℕ) where
           let here : below ≡ i = omega (arith, g.few) in
           g.going here ∙ rw (rows-end 12 m used i h) (omega arith)
 
-  pub rows_unsound : sound (rows_in 12 used m) ≡ false → Unsound ≡ judged_rows key (rows_in 12 used m)
+  pub rows_unsound : sound (rows_in 12 used m) ≡ false → Err UnsoundTable ≡ judged_rows key (rows_in 12 used m)
   unfolding judged_rows
   rows_unsound e = rw e
 
   -- what judging the table answers
-  pub judged_wrong : true ≡ (wrong_table stock_rows m).1 → WrongTable ≡ judged key used m
+  pub judged_wrong : true ≡ (wrong_table stock_rows m).1 → Err WrongSize ≡ judged key used m
   unfolding judged
   judged_wrong e = rw (← e)
 
   module _ (whole : false ≡ (wrong_table stock_rows m).1) where
-    pub judged_over : room_of stock_rows m < used → Unsound ≡ judged key used m
+    pub judged_over : room_of stock_rows m < used → Err UnsoundTable ≡ judged key used m
     unfolding judged
     judged_over h = rw (← whole, lt-ltb (room_of stock_rows m) used h)
 
@@ -94,6 +94,6 @@ module _ (key : Block) (m : List ℕ) (used : ℕ) where
     judged_rows_lem h =
         rw (← whole, le-ltb (room_of stock_rows m) used h, plain-fits used m) (by_test (sound (rows_in 12 used m)))
       where
-        by_test : (t : Bool) → cond t (Sound all) Unsound ≡ cond (not (t && true)) Unsound (Sound all)
+        by_test : (t : Bool) → cond t (Ok all) (Err UnsoundTable) ≡ cond (not (t && true)) (Err UnsoundTable) (Ok all)
         by_test true = refl
         by_test false = refl

@@ -1,6 +1,6 @@
 -- The rows judged one after the other by their keys: what is left decides.
-use Rattle.std.specs.Prelude.{◌≡◌, refl, Bool, cond, not, ◌&&◌, List, eqb, drop}
-use Rattle.std.proofs.Common.{sym, ◌∙◌, ap, arith, eq-eqb, ne_eqb}
+use Rattle.std.specs.Prelude.{◌≡◌, refl, Bool, cond, not, ◌&&◌, List, eqb, drop, Ok, Err}
+use Rattle.std.proofs.Common.{sym, ◌∙◌, ap, arith, ne_eqb}
 use Rattle.std.proofs.Math.Bool.{true, false}
 use Rattle.std.proofs.lemmas.Bool.{false≢true}
 use Prim.Native.Nat.{ℕ, zero, suc, ◌+◌, ◌*◌, ◌-◌, ◌≤◌, ◌<◌}
@@ -11,9 +11,10 @@ use Rattle.families.proofs.Published.{words1983}
 use Rattle.fractions.specs.Fractions.{gcd}
 use Rattle.outcomes.specs.BlockOrder.{block_below}
 use Rattle.outcomes.proofs.BlockOrder.{block_below_lem}
-use Rattle.spell.specs.declared.Spelled.TheVariants.{Key, ZeroDenominator}
+use Rattle.refusals.specs.declared.Refusal.{Refusal}
+use Rattle.spell.specs.declared.Spelled.{Spelled}
 use Rattle.spell.specs.Spelling.{spelling}
-use Rattle.spell.specs.Callers.{told-zero, key-spells}
+use Rattle.spell.specs.Callers.{told-zero, told-key, key-spells}
 use Rattle.tables.specs.declared.Row.{Row}
 use Rattle.tables.specs.Rows.{row_of, rows_in}
 use Rattle.tables.specs.Sound.{is_row, row_below, sound_behind, sound}
@@ -33,28 +34,23 @@ module _ (r : Row) where
   abbrev rest : Bool
   rest = eqb (gcd p q) 1 && not (eqb r.quantity 0)
 
-  pub row-zero : ZeroDenominator ≡ spelling p q → is_row r ≡ false
-  row-zero e = sym (told-zero p q false rest e ∙ by_test (eqb q 0))
-    where
-      by_test : (b : Bool) → cond b false rest ≡ (not b && rest)
-      by_test true = refl
-      by_test false = refl
+  tested : (b : Bool) → cond b false rest ≡ (not b && rest)
+  tested true = refl
+  tested false = refl
 
-  module _ {b : Block} {n d : ℕ} (e : Key b n d ≡ spelling p q) where
-    some : eqb q 0 ≡ false
-    some = ne_eqb q 0 (λ z. omega (arith, (key-spells p q b n d e).positive))
+  pub row-zero : {e : Refusal} → Err e ≡ spelling p q → is_row r ≡ false
+  row-zero h = sym (told-zero p q false rest h ∙ tested (eqb q 0))
 
-    pub row_common : (d ≡ 1 → ⊥) → is_row r ≡ false
-    row_common h = rw (some, ne_eqb (gcd p q) 1 (λ z. h ((key-spells p q b n d e).divisor ∙ z)))
+  module _ {s : Spelled} (h : Ok s ≡ spelling p q) where
+    by_row : is_row r ≡ (eqb s.divisor 1 && not (eqb r.quantity 0))
+    by_row = rw (key-spells p q h).divisor (sym (told-key p q false rest h ∙ tested (eqb q 0)))
 
-    lowest : d ≡ 1 → eqb (gcd p q) 1 ≡ true
-    lowest h = eq-eqb (gcd p q) 1 (sym (key-spells p q b n d e).divisor ∙ h)
+    pub row_bad : false ≡ (eqb s.divisor 1 && not (eqb r.quantity 0)) → is_row r ≡ false
+    row_bad e = by_row ∙ sym e
 
-    pub row_none : d ≡ 1 → r.quantity ≡ 0 → is_row r ≡ false
-    row_none h z = rw (some, lowest h, eq-eqb r.quantity 0 z)
-
-    pub row_good : d ≡ 1 → (r.quantity ≡ 0 → ⊥) → (is_row r ≡ true) × (b ≡ block_of_row r)
-    row_good h z = (rw (some, lowest h, ne_eqb r.quantity 0 z), (key-spells p q b n d e).block)
+    pub row_good : true ≡ (eqb s.divisor 1 && not (eqb r.quantity 0))
+        → (is_row r ≡ true) × (s.block ≡ block_of_row r)
+    row_good e = (by_row ∙ sym e, (key-spells p q h).block)
 
 -- row i
 abbrev pub row_in : List ℕ → ℕ → Row

@@ -1,17 +1,8 @@
 -- A row that isn't sound, or that doesn't stand behind the one before it, makes the table unsound. Else one row more is
 -- judged, and at the end no row is left.
-use Rattle.std.proofs.Common.{sym, ◌∙◌, arith}
+use Rattle.std.proofs.Common.{sym, arith}
 use Rattle.bits.specs.Texts.{Bytes}
-use Rattle.judge.specs.Rising.{
-  row-zero,
-  row_common,
-  row_none,
-  row_good,
-  rising-end,
-  rising_unsound,
-  rising-falls,
-  rising-more,
-}
+use Rattle.judge.specs.Rising.{row-zero, row_bad, row_good, rising-end, rising_unsound, rising-falls, rising-more}
 use Rattle.judge.specs.Passing.{passing-more, passing-end, rows_unsound}
 use Rattle.judge.proofs.judge_rows.Goals as goal
 
@@ -20,30 +11,26 @@ returns-in_default c =
     rows_unsound _ _ _ (rising_unsound _ _ _ c.loop-i.i c.loop-i.invariant.0 (omega arith)
     (rw c.row_from-row.ensures at (row-zero c.row_from-row.result c.in_default.ensures)))
 
-pub returns-then-divisor-ne1 : goal.returns-then-divisor-ne1
-returns-then-divisor-ne1 c =
+pub returns-then-not-is_good : goal.returns-then-not-is_good
+returns-then-not-is_good c =
     rows_unsound _ _ _ (rising_unsound _ _ _ c.loop-i.i c.loop-i.invariant.0 (omega arith)
-    (rw c.row_from-row.ensures at (row_common c.row_from-row.result c.in-Key.ensures c.if-divisor-ne1.true)))
-
-pub returns-then-quantity-eq0 : goal.returns-then-quantity-eq0
-returns-then-quantity-eq0 c =
-    rows_unsound _ _ _ (rising_unsound _ _ _ c.loop-i.i c.loop-i.invariant.0 (omega arith)
-    (rw c.row_from-row.ensures at (row_none c.row_from-row.result c.in-Key.ensures (omega arith) (omega arith))))
+    (rw c.row_from-row.ensures at (row_bad c.row_from-row.result c.in-Ok.ensures c.if-not-is_good.ensures)))
 
 pub returns-then-falls : goal.returns-then-falls
 returns-then-falls c =
     let bytes : Bytes c.args.m.now = λ i. (c.type_inv.m i).fits in
+    let good =
+    rw c.row_from-row.ensures at (row_good c.row_from-row.result c.in-Ok.ensures c.if-not-is_good.ensures) in
     rows_unsound _ _ _ (rising-falls _ _ _ bytes _ c.loop-i.i c.loop-i.invariant.0 (omega arith)
-    (rw c.row_from-row.ensures at (row_good c.row_from-row.result c.in-Key.ensures (omega arith) (λ e. omega arith)))
-    (sym c.falls.ensures ∙ c.if-falls.true))
+    good (sym c.if-falls.ensures))
 
 pub loop-i-preserved : goal.loop-i-preserved
 loop-i-preserved c =
     let bytes : Bytes c.args.m.now = λ i. (c.type_inv.m i).fits in
     let good =
-    rw c.row_from-row.ensures at (row_good c.row_from-row.result c.in-Key.ensures (omega arith) (λ e. omega arith)) in (
-      rising-more _ _ _ bytes _ c.loop-i.i c.loop-i.invariant.0 (omega arith) good
-          (sym c.falls.ensures ∙ c.if-falls.false),
+    rw c.row_from-row.ensures at (row_good c.row_from-row.result c.in-Ok.ensures c.if-not-is_good.ensures) in (
+      rising-more _ _ _ bytes _ c.loop-i.i c.loop-i.invariant.0 (omega arith)
+          good (sym c.if-falls.ensures),
       passing-more _ _ _ c.loop-i.below c.loop-i.i c.loop-i.invariant.1 (omega arith) good.1 c.pass-below.ensures,
     )
 
