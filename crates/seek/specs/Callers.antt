@@ -1,10 +1,13 @@
 -- What seeking p/q tells a call of the table: its outcome where table or ratio have a fault, and else the rows in parts
--- and that the rest of its refusals decide.
-use Rattle.std.specs.Prelude.{◌≡◌, Bool, true, false, cond, not, ◌&&◌, ◌||◌, List, [], ◌∷◌, eqb, ltb, length, drop}
+-- and that the rest of its refusals decide. A call that seeks by `?` cites `told_on` at the exit, with
+-- `c.in_err-NAME.ensures` and `c.from_residual.ensures.1`; behind the `?`, an arm's own `.ensures` is what `told-here` and
+-- `told-absent` take.
+use Rattle.std.specs.Prelude.{◌≡◌, Bool, true, false, cond, not, ◌&&◌, ◌||◌, List, [], ◌∷◌, eqb, ltb, length, drop, Result, Ok, Err}
 use Rattle.std.proofs.Math.Path.{refl}
 use Rattle.std.proofs.Common.{sym, ◌∙◌, ap, arith, ltb-false, eq-eqb, ne_eqb, drop_at}
 use Prim.Native.Nat.{ℕ, ◌*◌, ◌≤◌, ◌<◌}
 use Rattle.std.proofs.lemmas.Bool.{eqb-false}
+use Rattle.std.specs.Result.{IsErrAnd}
 use Rattle.fractions.specs.Fractions.{◌over◌, lowest_terms}
 use Rattle.tables.specs.declared.Row.{Row}
 use Rattle.tables.specs.Layouts.{stock_rows}
@@ -15,26 +18,20 @@ use Rattle.tables.proofs.Moved.{count}
 use Rattle.tables.specs.Order.{Above}
 use Rattle.tables.proofs.Order.{sound_facts}
 use Rattle.tables.proofs.Parts.{Here as Found, Absent as Missing, Parted, here, absent, parted}
-use Rattle.outcomes.specs.Outcomes.{Outcome, gives, refuses, called}
+use Rattle.outcomes.specs.Outcomes.{Outcome, leaves, gives, refuses, called}
 use Rattle.outcomes.specs.Laws.{Clear}
 use Rattle.outcomes.proofs.Laws.{clear-called}
 use Rattle.outcomes.specs.Stocking.{wrong_table, Call, find, denominator_of}
 use Rattle.outcomes.specs.Stocking.{stock_refusals, stock_values, stock_memory, stock_call}
 use Rattle.judge.specs.Callers.{Fine}
-use Rattle.seek.specs.declared.Fault.{Fault}
-use Rattle.seek.specs.declared.Fault.TheVariants.{WrongTable, UnsoundTable, ZeroDenominator}
+use Rattle.refusals.specs.declared.Refusal as reasons
+use Rattle.refusals.specs.declared.Refusal.TheVariants.{ZeroDenominator, WrongSize, UnsoundTable}
+use Rattle.refusals.specs.Numbers.{number_of}
+use Rattle.refusals.specs.Answers.{answered}
+use Rattle.fractions.specs.declared.Fraction.{Fraction}
 use Rattle.seek.specs.declared.Sought.{Sought}
-use Rattle.seek.specs.declared.Sought.TheVariants.{Here, Absent, Faulty}
+use Rattle.seek.specs.declared.Sought.TheVariants.{Here, Absent}
 use Rattle.seek.specs.Seeking.{sought_at, sought}
-
-abbrev pub number_of_fault : Fault → ℕ
-number_of_fault WrongTable = 2
-number_of_fault UnsoundTable = 16
-number_of_fault ZeroDenominator = 1
-
--- the fault that a number stands for
-abbrev pub fault_of : ℕ → Fault
-fault_of n = cond (eqb n 2) WrongTable (cond (eqb n 16) UnsoundTable ZeroDenominator)
 
 module _ (used p q : ℕ) (m : List ℕ) where
   abbrev rows : List Row
@@ -52,14 +49,18 @@ module _ (used p q : ℕ) (m : List ℕ) where
     rest = called (stock_refusals (room_of stock_rows m) rows c) values m (stock_memory stock_rows rows c m)
 
     -- the rows in parts, in a sound table
-    abbrev Tells : Outcome → Sought → Type 0
-    Tells o (Here i r) = Fine used m × (Found p q rows i r × (rest ≡ o))
-    Tells o (Absent i x y) =
-        Fine used m × (Missing p q rows i × (((x over y) ≡ lowest_terms p q) × (rest ≡ o)))
-    Tells o (Faulty f) = refuses (number_of_fault f) (length values) m ≡ o
+    abbrev Tells_place : Outcome → Sought → Type 0
+    Tells_place o (Here i r) = Fine used m × (Found p q rows i r × (rest ≡ o))
+    Tells_place o (Absent i f) =
+        Fine used m
+        × (Missing p q rows i × (((f.numerator over f.denominator) ≡ lowest_terms p q) × (rest ≡ o)))
+
+    abbrev Tells : Outcome → Result Sought reasons.Refusal → Type 0
+    Tells o (Ok s) = Tells_place o s
+    Tells o (Err e) = refuses (number_of e) (length values) m ≡ o
 
     told_place : Fine used m → Parted p q rows
-        → let i = index_of p q rows in Tells rest (sought_at p q i (drop i rows))
+        → let i = index_of p q rows in Tells_place rest (sought_at p q i (drop i rows))
     told_place fine (here {i} {r} h) =
         let there : drop i rows ≡ r ∷ h.behind =
         ap (drop i) h.parts ∙ drop_at h.before (r ∷ h.behind) i h.index in
@@ -68,14 +69,14 @@ module _ (used p q : ℕ) (m : List ℕ) where
         let there : drop i rows ≡ h.behind = ap (drop i) h.parts ∙ drop_at h.before h.behind i h.index in
         rw (h.place, there) (by_rows h.behind h.above)
       where
-        by_rows : (l : List Row) → Above p q l → Tells rest (sought_at p q i l)
+        by_rows : (l : List Row) → Above p q l → Tells_place rest (sought_at p q i l)
         by_rows [] a = (fine, (h, (refl, refl)))
         by_rows (x ∷ l) (less, a) =
             rw (ne_eqb (x.numerator * q) (p * x.denominator) (λ e. omega arith)) (fine, (h, (refl, refl)))
 
-    told : (s : Sought) → s ≡ sought used p q m → Tells whole s
+    told : (r : Result Sought reasons.Refusal) → r ≡ sought used p q m → Tells whole r
     unfolding sought stock_call
-    told s e =
+    told r e =
         rw (e, same) (by_tests (wrong_table stock_rows m).1 (ltb (room_of stock_rows m) used) (sound rows)
         (fitting stock_rows used m) (eqb q 0) refl refl refl refl)
       where
@@ -88,8 +89,8 @@ module _ (used p q : ℕ) (m : List ℕ) where
         by_tests : (w o t f z : Bool) → ltb (room_of stock_rows m) used ≡ o → sound rows ≡ t
             → fitting stock_rows used m ≡ f → eqb q 0 ≡ z
             → Tells (cond w (refused 2) (cond (o || not (t && f)) (refused 16) (cond z (refused 1) rest)))
-            (cond w (Faulty WrongTable) (cond (o || not (t && f)) (Faulty UnsoundTable)
-            (cond z (Faulty ZeroDenominator) (sought_at p q i (drop i rows)))))
+            (cond w (Err WrongSize) (cond (o || not (t && f)) (Err UnsoundTable)
+            (cond z (Err ZeroDenominator) (Ok (sought_at p q i (drop i rows))))))
         by_tests true o t f z a b d c = refl
         by_tests false true t f z a b d c = refl
         by_tests false false false f z a b d c = refl
@@ -99,16 +100,23 @@ module _ (used p q : ℕ) (m : List ℕ) where
             told_place (record { within = ltb-false (room_of stock_rows m) used a; rows = b; fits = d })
             (parted p q rows (omega (arith, eqb-false q 0 c)) (sound_facts rows b))
 
-    pub told_faulty : (f : Fault) → Faulty f ≡ sought used p q m → refuses (number_of_fault f) (length values) m ≡ whole
-    told_faulty f e = told (Faulty f) e
+    pub told_refused : {e : reasons.Refusal} → Err e ≡ sought used p q m → refuses (number_of e) (length values) m ≡ whole
+    told_refused {e} h = told (Err e) h
 
-    pub told-here : (i : ℕ) (r : Row) → Here i r ≡ sought used p q m
+    -- the same of a result r that a `?` hands on
+    pub told_on : {X : Type 0} (said : X → List ℕ) (r : Result X reasons.Refusal) {e : reasons.Refusal}
+        → Err e ≡ sought used p q m → IsErrAnd r (λ d. d ≡ e) → leaves (answered (length values) said r) m ≡ whole
+    told_on said (Ok x) h f = absurd f
+    told_on said (Err d) h f = rw f (told_refused h)
+
+    pub told-here : {i : ℕ} {r : Row} → Ok (Here i r) ≡ sought used p q m
         → Fine used m × (Found p q rows i r × (rest ≡ whole))
-    told-here i r e = told (Here i r) e
+    told-here {i} {r} h = told (Ok (Here i r)) h
 
-    pub told-absent : (i x y : ℕ) → Absent i x y ≡ sought used p q m
-        → Fine used m × (Missing p q rows i × (((x over y) ≡ lowest_terms p q) × (rest ≡ whole)))
-    told-absent i x y e = told (Absent i x y) e
+    pub told-absent : {i : ℕ} {f : Fraction} → Ok (Absent i f) ≡ sought used p q m
+        → Fine used m
+        × (Missing p q rows i × (((f.numerator over f.denominator) ≡ lowest_terms p q) × (rest ≡ whole)))
+    told-absent {i} {f} h = told (Ok (Absent i f)) h
 
     -- nothing is left to refuse
     pub told-given : {v l : List ℕ} → Clear (stock_refusals (room_of stock_rows m) rows c) → rest ≡ whole → v ≡ values
@@ -119,14 +127,16 @@ module _ (used p q : ℕ) (m : List ℕ) where
         ∙ e
 
   -- the place is within the used rows, and these within the room
-  pub here-within : (i : ℕ) (r : Row) → Here i r ≡ sought used p q m → (i < used) × (used ≤ room_of stock_rows m)
-  here-within i r e =
-      let (fine, (h, rest)) = told-here (find p q) refl i r e in
+  pub here-within : {i : ℕ} {r : Row} → Ok (Here i r) ≡ sought used p q m
+      → (i < used) × (used ≤ room_of stock_rows m)
+  here-within {i} {r} e =
+      let (fine, (h, rest)) = told-here (find p q) refl e in
       let all = count stock_rows used m h.before (r ∷ h.behind) h.parts in
       (omega (arith, h.index), fine.within)
 
-  pub absent-within : (i x y : ℕ) → Absent i x y ≡ sought used p q m → (i ≤ used) × (used ≤ room_of stock_rows m)
-  absent-within i x y e =
-      let (fine, (h, rest)) = told-absent (find p q) refl i x y e in
+  pub absent-within : {i : ℕ} {f : Fraction} → Ok (Absent i f) ≡ sought used p q m
+      → (i ≤ used) × (used ≤ room_of stock_rows m)
+  absent-within e =
+      let (fine, (h, rest)) = told-absent (find p q) refl e in
       let all = count stock_rows used m h.before h.behind h.parts in
       (omega (arith, h.index), fine.within)

@@ -2,3 +2,4 @@ pub mod Seeking
 pub mod Finding
 pub mod Replies
 pub mod Callers
+pub mod Answers
