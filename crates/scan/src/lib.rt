@@ -2,11 +2,11 @@
 // stopped, and how many characters a word took.
 #![tactic(auto)]
 
-ghost use Rattle.std.specs.Prelude.{◌≡◌};
+ghost use Rattle.std.specs.Prelude.{not, ◌≡◌};
 ghost use Rattle.bits.specs.Texts.{bits_of_text};
 ghost use Rattle.blocks.specs.Blocks.{bits_of_block};
 ghost use Rattle.scan.specs.Judging.{judgement};
-ghost use Rattle.scan.specs.Taking.{taken_at};
+ghost use Rattle.scan.specs.Taking.{is_turned, taken_at};
 
 use blocks::Block;
 use refusals::Refusal;
@@ -35,6 +35,18 @@ impl From<Fault> for Refusal {
 pub enum Kind {
     Word,
     Turned,
+}
+
+impl Kind {
+    // The kind due behind a word of this one.
+    pub fn other(self) -> Kind
+        ensures { is_turned result ≡ not (is_turned self) }
+    {
+        match self {
+            Kind::Word => Kind::Turned,
+            Kind::Turned => Kind::Word,
+        }
+    }
 }
 
 // A place in a key: the characters used, and the kind of word due there.

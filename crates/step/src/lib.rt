@@ -1,107 +1,69 @@
 // Stepping through a text key, a quotient at a time. Between steps a caller keeps the key and its place.
 #![tactic(auto)]
 
-ghost use Rattle.std.specs.Prelude.{not, [], ◌≡◌};
+ghost use Rattle.std.specs.Prelude.{[], ◌≡◌};
 ghost use Rattle.outcomes.specs.Outcomes.{leaves};
 ghost use Rattle.outcomes.specs.Stepping.{start_text};
-ghost use Rattle.scan.specs.Taking.{is_turned};
-ghost use Rattle.step.specs.Answers.{started_as, stepped_as, step_from};
+ghost use Rattle.refusals.specs.Answers.{answered};
+ghost use Rattle.step.specs.Answers.{place_as, stepped_as, step_from};
+ghost use Rattle.step.specs.Replies.{Takes};
 
-use scan::{Fault, Judged, Kind, Place, Taken};
+use refusals::Refusal;
+use scan::{Kind, Place, Quotient};
 
 pub mod reader;
 
-#[derive(Clone, Copy)]
-pub enum Started {
-    At { place: Place },
-    Faulty(Fault),
-}
-
-// What a step meets.
-#[derive(Clone, Copy)]
-pub enum Met {
-    Quotient { value: u32 },
-    End,
-    Faulty(Fault),
-    WrongPlace,
-    OutOfRange,
-}
-
-// What a step meets, and the place after it; at the end and where the step is refused that is the place handed in.
-#[derive(Clone, Copy)]
+// What a step meets, a quotient or the end, and the place after it; at the end and where the step is refused that is
+// the place handed in.
+#[derive(Clone, Copy, Debug, PartialEq, Eq)]
 pub struct Stepped {
-    pub met: Met,
+    pub met: Result<Option<u32>, Refusal>,
     pub place: Place,
 }
 
 // The place after the first character of a key.
-pub fn start(k: &[u8]) -> Started
-    ensures { leaves (started_as result) [] ≡ start_text k.now }
+pub fn start(k: &[u8]) -> Result<Place, Refusal>
+    ensures { leaves (answered 2 place_as result) [] ≡ start_text k.now }
 {
-    match scan::judge(k) {
-        Judged::Faulty { fault, at: _ } => Started::Faulty(fault),
-        Judged::Key => {
-            if k[0] == 49 {
-                return Started::At {
-                    place: Place {
-                        used: 1,
-                        due: Kind::Word,
-                    },
-                };
-            }
-            Started::At {
-                place: Place {
-                    used: 1,
-                    due: Kind::Turned,
-                },
-            }
-        }
-    }
-}
-
-// The other kind.
-fn other(due: Kind) -> Kind
-    ensures { is_turned result ≡ not (is_turned due) }
-{
-    match due {
-        Kind::Word => Kind::Turned,
-        Kind::Turned => Kind::Word,
-    }
-}
-
-// What is met where the place stays.
-fn stays(met: Met, place: Place) -> Stepped
-    ensures { result ≡ record { met = met; place = place } }
-{
-    Stepped { met, place }
+    scan::judge(k)?;
+    let due = if k[0] == b'1' {
+        Kind::Word
+    } else {
+        Kind::Turned
+    };
+    Ok(Place { used: 1, due })
 }
 
 // The word due at a place of a key.
+fn word_at(key: &[u8], place: Place) -> Result<Option<Quotient>, Refusal>
+    ensures { Takes key.now place result }
+{
+    scan::judge(key)?;
+    if place.used == 0 || 160 < place.used {
+        return Err(Refusal::Outside);
+    }
+    scan::take_text(key, place)
+}
+
+// What is met at a place of a key.
 pub fn step(k: &[u8], place: Place) -> Stepped
     ensures { stepped_as result ≡ step_from k.now place }
 {
-    let used = place.used;
-    let due = place.due;
-    match scan::judge(k) {
-        Judged::Faulty { fault, at: _ } => stays(Met::Faulty(fault), place),
-        Judged::Key => {
-            if used == 0 {
-                return stays(Met::WrongPlace, place);
-            }
-            if 160 < used {
-                return stays(Met::WrongPlace, place);
-            }
-            match scan::take_text(k, place) {
-                Taken::Quotient { value, characters } => Stepped {
-                    met: Met::Quotient { value },
-                    place: Place {
-                        used: used + characters,
-                        due: other(due),
-                    },
-                },
-                Taken::Long => stays(Met::OutOfRange, place),
-                Taken::End => stays(Met::End, place),
-            }
-        }
+    match word_at(k, place) {
+        Ok(Some(word)) => Stepped {
+            met: Ok(Some(word.value)),
+            place: Place {
+                used: place.used + word.characters,
+                due: place.due.other(),
+            },
+        },
+        Ok(None) => Stepped {
+            met: Ok(None),
+            place,
+        },
+        Err(refusal) => Stepped {
+            met: Err(refusal),
+            place,
+        },
     }
 }

@@ -11,30 +11,35 @@ pub struct Reader<'a> {
     pub place: Place,
 }
 
-// A reader of key at a place.
-pub fn hold<'a>(key: &'a [u8], place: Place) -> Reader<'a>
-    ensures { (result.key ≡ key.entry) × (result.place ≡ place) }
-{
-    Reader { key, place }
-}
+impl<'a> Reader<'a> {
+    // A reader of key at a place.
+    pub fn hold(key: &'a [u8], place: Place) -> Reader<'a>
+        ensures { (result.key ≡ key.entry) × (result.place ≡ place) }
+    {
+        Reader { key, place }
+    }
 
-// What the reader meets next, and the place after it.
-pub fn next<'a>(r: Reader<'a>) -> Stepped
-    ensures { stepped_as result ≡ step_from r.entry.key.now r.entry.place }
-{
-    crate::step(r.key, r.place)
-}
+    // What the reader meets next, and the place after it.
+    pub fn next(self) -> Stepped
+        ensures { stepped_as result ≡ step_from self.entry.key.now self.entry.place }
+    {
+        crate::step(self.key, self.place)
+    }
 
-// The same key at another place, as at that which a step gave.
-pub fn moved<'a>(r: Reader<'a>, place: Place) -> Reader<'a>
-    ensures { (result.key ≡ r.entry.key) × (result.place ≡ place) }
-{
-    Reader { key: r.key, place }
+    // The same key at another place, as at that which a step gave.
+    pub fn moved(self, place: Place) -> Reader<'a>
+        ensures { (result.key ≡ self.entry.key) × (result.place ≡ place) }
+    {
+        Reader {
+            key: self.key,
+            place,
+        }
+    }
 }
 
 // The same as `next`, for a caller that holds no reader.
 pub fn next_at(key: &[u8], place: Place) -> Stepped
     ensures { stepped_as result ≡ step_from key.now place }
 {
-    next(hold(key, place))
+    Reader::hold(key, place).next()
 }
