@@ -1,10 +1,9 @@
 -- The lister on its way through a stretch: what it took, wrote and left, from one byte to the next and to the end.
-use Rattle.std.specs.Prelude.{◌≡◌, refl, Bool, true, false, cond, List, [], ◌∷◌, ◌++◌, ℕ, ◌+◌, ◌-◌, ◌≤◌, ◌<◌, eqb, length, get_or, take, drop}
-use Rattle.std.proofs.Common.{sym, ap, ◌∙◌, append-nil, add-zero, add-one, arith, eqb-true, length-append, length-drop, drop_of_length-le, drop-cons}
+use Rattle.std.specs.Prelude.{◌≡◌, refl, Bool, true, false, cond, List, [], ◌∷◌, ◌++◌, ℕ, ◌+◌, ◌-◌, ◌≤◌, ◌<◌, eqb, length, get_or, take, drop, Option, Some, None}
+use Rattle.std.proofs.Common.{sym, ap, ◌∙◌, append-nil, add-zero, add-one, arith, eqb-true, length-append, length-drop, drop_of_length-le, drop-cons, take-append-drop}
 use Rattle.std.proofs.lemmas.Bool.{eqb-false}
+use Rattle.bits.proofs.Memory.{lent_part, lent_back}
 use Rattle.fields.specs.Fields.{fed_by, feed_of}
-use Rattle.fields.specs.declared.Fed.{Fed}
-use Rattle.fields.specs.declared.Fed.TheVariants.{Within, Ended}
 use Rattle.fields.specs.declared.Field.{Field}
 use Rattle.fields.specs.declared.Field.TheVariants.{Empty}
 use Rattle.lines.specs.Machines.{behind, untouched, stretched}
@@ -18,20 +17,20 @@ use Rattle.lines.proofs.Stretches.{
   stretch-fits,
   stretch-some,
 }
-use Rattle.list.specs.Puts.{Puts, puts-text}
+use Rattle.list.specs.Puts.{Puts, MayPut, puts-text}
 use Rattle.list.specs.Ratios.{answer_of, ratios}
 use Rattle.list.specs.Listing.{Lists}
 
 -- what the answer to a byte that was fed says of it
-abbrev Says : Field → ℕ → Fed → Type 0
-Says s c Ended = c ≡ 10
-Says s c (Within next) = (c ≡ 10 → ⊥) × (next ≡ fed_by s c)
+abbrev Says : Field → ℕ → Option Field → Type 0
+Says s c None = c ≡ 10
+Says s c (Some next) = (c ≡ 10 → ⊥) × (next ≡ fed_by s c)
 
 -- it is a newline where the line ended, and otherwise the field goes on
-feed-says : (s : Field) (c : ℕ) (r : Fed) → r ≡ feed_of s c → Says s c r
+feed-says : (s : Field) (c : ℕ) (r : Option Field) → r ≡ feed_of s c → Says s c r
 feed-says s c r e = rw e (by_test (eqb c 10) refl)
   where
-    by_test : (b : Bool) → eqb c 10 ≡ b → Says s c (cond b Ended (Within (fed_by s c)))
+    by_test : (b : Bool) → eqb c 10 ≡ b → Says s c (cond b None (Some (fed_by s c)))
     by_test true t = eqb-true c 10 t
     by_test false t = (eqb-false c 10 t, refl)
 
@@ -76,6 +75,13 @@ module _ {begun field : Field} {input m now : List ℕ} {taken written : ℕ}
   abbrev room : ℕ
   room = length m - written
 
+  -- the rest of the memory, as it is lent, and the whole where it has come back as part
+  abbrev lent : List ℕ
+  lent = take (length now - written) (drop written now)
+
+  abbrev back : List ℕ → List ℕ
+  back part = take written now ++ (part ++ drop (length now - written) (drop written now))
+
   -- that what was taken and written so far is all
   abbrev Stops : Type 0
   Stops = Lists begun input m (record { taken = taken; written = written; field = field }) now
@@ -109,10 +115,13 @@ module _ {begun field : Field} {input m now : List ℕ} {taken written : ℕ}
     input_left : drop taken input ≡ byte ∷ rest
     input_left = rw add-one (drop-cons input taken 0 h)
 
-    -- a newline, and too little room
-    pub going-full : Ended ≡ feed_of field byte → room < 130 → Stops
-    going-full e l =
-        going_stopped (rw input_left (stretch-full ratios room field byte rest (feed-says field byte Ended e) l))
+    -- a newline, and too little room for the answer: the rest of the memory comes back as it was
+    pub going-full : {part : List ℕ} → None ≡ feed_of field byte → MayPut 130 (answer_of field) lent None part
+        → Lists begun input m (record { taken = taken; written = written; field = field }) (back part)
+    going-full e (l, p) =
+        let few : room < 130 = rw (lent_part, length-drop, g.same) at l in
+        rw (lent_back [] now written p, take-append-drop)
+        (going_stopped (rw input_left (stretch-full ratios room field byte rest (feed-says field byte None e) few)))
 
     -- the byte is taken, and a is written
     going_on : (a : List ℕ) (next : Field) (w : ℕ) (l : List ℕ) → Puts (g.text ++ a) m w l
@@ -123,18 +132,17 @@ module _ {begun field : Field} {input m now : List ℕ} {taken written : ℕ}
         (g.left ∙ rw (input_left, e) (behind-behind taken 1 g.text a (stretched ratios (length m - w) next rest)))
 
     -- a byte of a line
-    pub going_fed : (next : Field) → Within next ≡ feed_of field byte → Going begun input m next (taken + 1) written now
+    pub going_fed : (next : Field) → Some next ≡ feed_of field byte → Going begun input m next (taken + 1) written now
     going_fed next e =
-        let (other, fed) = feed-says field byte (Within next) e in
+        let (other, fed) = feed-says field byte (Some next) e in
         going_on [] next written now (rw append-nil g.puts)
         (rw fed (stretch_feeds ratios room field byte rest other))
 
     -- a newline, and the answer is put into the rest of the memory
-    pub going-answered : (n : ℕ) (part : List ℕ) → Ended ≡ feed_of field byte → 130 ≤ room
-        → Puts (answer_of field) (take (length now - written) (drop written now)) n part
-        → Going begun input m Empty (taken + 1) (written + n)
-        (take written now ++ (part ++ drop (length now - written) (drop written now)))
-    going-answered n part e r p =
+    pub going-answered : {n : ℕ} {part : List ℕ} → None ≡ feed_of field byte → MayPut 130 (answer_of field) lent (Some n) part
+        → Going begun input m Empty (taken + 1) (written + n) (back part)
+    going-answered {n} {part} e (l, p) =
+        let r : 130 ≤ room = rw (lent_part, length-drop, g.same) at l in
         let smaller : room - length (answer_of field) ≡ length m - (written + n) = omega (arith, p.count) in
-        going_on (answer_of field) Empty (written + n) _ (puts-text g.puts (answer_of field) part n p)
-        (rw (← smaller) (stretch-answers ratios room field byte rest (feed-says field byte Ended e) r))
+        going_on (answer_of field) Empty (written + n) _ (puts-text g.puts refl (answer_of field) part n p)
+        (rw (← smaller) (stretch-answers ratios room field byte rest (feed-says field byte None e) r))

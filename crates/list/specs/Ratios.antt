@@ -1,5 +1,5 @@
 -- The lister's machine: it is fed a field, and answers with the line that the field calls for.
-use Rattle.std.specs.Prelude.{refl, cond, ◌||◌, List, ℕ, ◌≤◌, eqb, ltb, length}
+use Rattle.std.specs.Prelude.{refl, cond, ◌||◌, List, ℕ, ◌≤◌, eqb, ltb, length, Result, Ok, Err}
 use mathlib.Mathlib.Data.Bool.Basic.{or-eq-false-eq-eq-false-and-eq-false as neither-true}
 use Rattle.std.proofs.Common.{arith, ltb-false}
 use Rattle.std.proofs.lemmas.Bool.{eqb-false}
@@ -7,8 +7,9 @@ use Rattle.fields.specs.Fields.{fed_by, is_blank, typed_of}
 use Rattle.fields.proofs.TypedLines.{chosen, fed_not_blank}
 use Rattle.fields.specs.declared.Field.{Field}
 use Rattle.fields.specs.declared.Field.TheVariants.{Empty, First, Second, Bad}
-use Rattle.fields.specs.declared.Typed.{Typed}
-use Rattle.fields.specs.declared.Typed.TheVariants.{Ratio, Malformed, TooLarge}
+use Rattle.fractions.specs.declared.Fraction.{Fraction}
+use Rattle.refusals.specs.declared.Refusal.{Refusal}
+use Rattle.refusals.specs.Numbers.{number_of}
 use Rattle.keys.specs.Size.{limit}
 use Rattle.lines.specs.Machines.{Machine}
 use Rattle.outcomes.specs.Listing.{accepted_line, refused_line}
@@ -18,10 +19,9 @@ use Rattle.list.specs.Sizes.{accepted_size, refused_size}
 abbrev pub answer_with : ℕ → ℕ → List ℕ
 answer_with p q = cond (eqb q 0) (refused_line 1) (accepted_line p q)
 
-abbrev pub answer_typed : Typed → List ℕ
-answer_typed (Ratio p q) = answer_with p q
-answer_typed Malformed = refused_line 10
-answer_typed TooLarge = refused_line 7
+abbrev pub answer_typed : Result Fraction Refusal → List ℕ
+answer_typed (Ok r) = answer_with r.numerator r.denominator
+answer_typed (Err e) = refused_line (number_of e)
 
 abbrev pub answer_of : Field → List ℕ
 answer_of s = answer_typed (typed_of s)
@@ -29,10 +29,11 @@ answer_of s = answer_typed (typed_of s)
 -- an answer has at most 130 bytes, whatever was fed
 pub answer_size : (s : Field) → length (answer_of s) ≤ 130
 answer_size Empty = refused_size 10 (omega arith)
-answer_size (First n v) = refused_size 10 (omega arith)
+answer_size (First n) = refused_size 10 (omega arith)
 answer_size Bad = refused_size 10 (omega arith)
-answer_size (Second p n v) =
-    chosen (Fits answer_typed) (eqb n 0) (refused_size 10 (omega arith)) (λ _.
+answer_size (Second p n) =
+    let v = n.value in
+    chosen (Fits answer_typed) (eqb n.digits 0) (refused_size 10 (omega arith)) (λ _.
     chosen (Fits answer_typed) (ltb limit p || ltb limit v) (refused_size 7 (omega arith)) (λ e.
     let (f, g) = (neither-true (ltb limit p) (ltb limit v)).0 e in
     chosen (Fits (λ t. t)) (eqb v 0) (refused_size 1 (omega arith)) (λ h.

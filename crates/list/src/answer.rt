@@ -1,15 +1,45 @@
 // The answer to a line, put out at the front of a buffer.
 ghost use Rattle.std.specs.Prelude.{◌≡◌, ◌≤◌, length};
-ghost use Rattle.bits.specs.Texts.{in_front};
-ghost use Rattle.lines.specs.Lines.{printed};
+ghost use Rattle.bits.specs.Strings.{closed};
+ghost use Rattle.bits.specs.Texts.{text_of};
+ghost use Rattle.blocks.specs.Blocks.{bits_of_block};
 ghost use Rattle.outcomes.specs.Listing.{marked, refused_line};
-ghost use Rattle.list.specs.Ratios.{answer_of, answer_with};
-ghost use Rattle.list.specs.Puts.{Puts};
-ghost use Rattle.list.specs.Replies.{entry_with};
+ghost use Rattle.refusals.specs.Numbers.{number_of};
+ghost use Rattle.list.specs.Ratios.{answer_of};
+ghost use Rattle.list.specs.Puts.{Puts, MayPut};
+ghost use Rattle.list.specs.Replies.{entry_line, reply_line};
 
+use crate::ROOM;
 use blocks::Block;
-use fields::{Field, Typed};
-use spell::Spelled;
+use fields::Field;
+use fractions::Fraction;
+use refusals::Refusal;
+
+// A typed ratio in lowest terms, its key and how many quotients the key has.
+#[derive(Clone, Copy)]
+pub struct Entry {
+    pub ratio: Fraction,
+    pub key: Block,
+    pub quotients: u32,
+}
+
+// The entry of what was typed in a line. The divisor is the one that spelling the key leaves.
+fn entry_for(field: Field) -> Result<Entry, Refusal>
+    ensures { reply_line result ≡ answer_of field }
+{
+    let typed = field.settle()?;
+    let spelled = spell::spell(typed.numerator, typed.denominator)?;
+    let numerator = typed.numerator / spelled.divisor;
+    let denominator = typed.denominator / spelled.divisor;
+    Ok(Entry {
+        ratio: Fraction {
+            numerator,
+            denominator,
+        },
+        key: spelled.block,
+        quotients: spelled.quotients,
+    })
+}
 
 // A number, and a mark behind it.
 fn put_number(n: u32, mark: u8, out: &mut [u8]) -> usize
@@ -17,76 +47,47 @@ fn put_number(n: u32, mark: u8, out: &mut [u8]) -> usize
     ensures puts { Puts (marked n mark) out.old result out.new }
     ensures upper_bound { result ≤ 11 }
 {
-    let at = put::put_decimal(n, out);
+    let at = put::put_decimal(n, out).unwrap();
     out[at] = mark;
     at + 1
 }
 
-// The word refused and a space.
-fn put_refused(out: &mut [u8])
-    requires { 8 ≤ length out.old }
-    ensures { out.new ≡ in_front (printed "refused ") out.old }
+// The text of a key.
+fn put_key(key: Block, out: &mut [u8]) -> usize
+    requires { 96 ≤ length out.old }
+    ensures puts { Puts (text_of (closed (bits_of_block key))) out.old result out.new }
+    ensures upper_bound { result ≤ 96 }
 {
-    out[0] = b'r';
-    out[1] = b'e';
-    out[2] = b'f';
-    out[3] = b'u';
-    out[4] = b's';
-    out[5] = b'e';
-    out[6] = b'd';
-    out[7] = b' ';
+    put::put_text(key, out).unwrap()
 }
 
-// refused, and the number.
-fn refuse(number: u32, out: &mut [u8]) -> usize
-    requires { 19 ≤ length out.old }
-    ensures { Puts (refused_line number) out.old result out.new }
+// The word refused, and the number.
+fn refuse(refusal: Refusal, out: &mut [u8; ROOM]) -> usize
+    ensures { Puts (refused_line (number_of refusal)) out.old result out.new }
 {
-    put_refused(out);
-    8 + put_number(number, b'\n', &mut out[8..])
+    out[..8].copy_from_slice(b"refused ");
+    8 + put_number(refusal.number(), b'\n', &mut out[8..])
 }
 
-// The ratio p/q, its key and a count.
-fn accept(p: u32, q: u32, key: Block, quotients: u32, out: &mut [u8]) -> usize
-    requires { 130 ≤ length out.old }
-    ensures { Puts (entry_with p q key quotients) out.old result out.new }
+// The ratio, its key and the count.
+fn accept(entry: Entry, out: &mut [u8; ROOM]) -> usize
+    ensures { Puts (entry_line entry) out.old result out.new }
 {
-    let mut at = put_number(p, b'/', out);
-    at += put_number(q, b' ', &mut out[at..]);
-    at += put::put_text(key, &mut out[at..]);
+    let mut at = put_number(entry.ratio.numerator, b'/', out);
+    at += put_number(entry.ratio.denominator, b' ', &mut out[at..]);
+    at += put_key(entry.key, &mut out[at..]);
     out[at] = b' ';
     at += 1;
-    at + put_number(quotients, b'\n', &mut out[at..])
+    at + put_number(entry.quotients, b'\n', &mut out[at..])
 }
 
-// The answer to a typed ratio: in lowest terms, by the divisor that spelling its key leaves.
-fn answer_ratio(p: u32, q: u32, out: &mut [u8]) -> usize
-    requires { 130 ≤ length out.old }
-    ensures { Puts (answer_with p q) out.old result out.new }
+// The answer to what was typed in a line, where there is room for any answer.
+pub fn answer(field: Field, out: &mut [u8]) -> Option<usize>
+    ensures { MayPut 130 (answer_of field) out.old result out.new }
 {
-    let spelled = spell::spell(p, q);
-    match spelled {
-        Spelled::ZeroDenominator => refuse(1, out),
-        Spelled::Key {
-            block,
-            quotients,
-            divisor,
-        } => accept(p / divisor, q / divisor, block, quotients, out),
-    }
-}
-
-// The answer to what was typed in a line.
-pub fn answer(field: Field, out: &mut [u8]) -> usize
-    requires { 130 ≤ length out.old }
-    ensures { Puts (answer_of field) out.old result out.new }
-{
-    let typed = fields::settle(field);
-    match typed {
-        Typed::Malformed => refuse(10, out),
-        Typed::TooLarge => refuse(7, out),
-        Typed::Ratio {
-            numerator,
-            denominator,
-        } => answer_ratio(numerator, denominator, out),
-    }
+    let room = out.first_chunk_mut::<ROOM>()?;
+    Some(match entry_for(field) {
+        Ok(entry) => accept(entry, room),
+        Err(refusal) => refuse(refusal, room),
+    })
 }

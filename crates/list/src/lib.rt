@@ -6,7 +6,7 @@ ghost use Rattle.lines.specs.Machines.{lacking};
 ghost use Rattle.list.specs.Ratios.{ratios};
 ghost use Rattle.list.specs.Listing.{Lists};
 
-use fields::{Fed, Field};
+use fields::Field;
 
 mod answer;
 
@@ -26,30 +26,25 @@ pub fn list(begun: Field, input: &[u8], out: &mut [u8]) -> Listed
     ensures { Lists begun input.now out.old result out.new }
 {
     let mut field = begun;
-    let mut taken = 0;
     let mut written = 0;
-    while taken < input.len() {
-        let fed = fields::feed(field, input[taken]);
-        match fed {
-            Fed::Within(next) => {
-                field = next;
-            }
-            Fed::Ended => {
-                if out.len() - written < ROOM {
+    for (taken, &byte) in input.iter().enumerate() {
+        match field.feed(byte) {
+            Some(next) => field = next,
+            None => {
+                let Some(more) = answer::answer(field, &mut out[written..]) else {
                     return Listed {
                         taken,
                         written,
                         field,
                     };
-                }
-                written += answer::answer(field, &mut out[written..]);
+                };
+                written += more;
                 field = Field::Empty;
             }
         }
-        taken += 1;
     }
     Listed {
-        taken,
+        taken: input.len(),
         written,
         field,
     }
@@ -60,7 +55,7 @@ pub fn list(begun: Field, input: &[u8], out: &mut [u8]) -> Listed
 pub fn finish(field: Field, out: &mut [u8]) -> Listed
     ensures { Lists field (lacking ratios field) out.old result out.new }
 {
-    if fields::is_blank(field) {
+    if field.is_blank() {
         return Listed {
             taken: 0,
             written: 0,

@@ -1,12 +1,14 @@
 -- The number stands behind the word.
-use Rattle.std.proofs.Common.{refl}
+use Rattle.std.proofs.Common.{◌++◌, ◌∙◌, refl, drop, arith}
 use Rattle.lines.specs.Lines.{printed}
 use Rattle.outcomes.specs.Listing.{refused_line}
-use Rattle.list.specs.Puts.{Puts, puts-text}
+use Rattle.list.specs.Puts.{Puts, puts-text, puts-length}
 use Rattle.list.proofs.answer.refuse.Goals as goal
 
 pub returns : goal.returns
 unfolding refused_line printed
 returns c =
-    let word : Puts (printed "refused ") _ 8 _ = record { count = refl; memory = c.put_refused.ensures } in
-    puts-text word _ _ _ c.put_number.ensures.puts
+    let word : Puts (printed "refused ") c.args.out.now 8 (c.copy_from_slice.new.self ++ drop 8 c.args.out.now) =
+    record { count = refl; memory = rw c.copy_from_slice.ensures.after refl } in
+    rw (← c.number.ensures)
+    (puts-text word {size = 130} (puts-length word (omega arith) ∙ c.told-out) _ _ _ c.put_number.ensures.puts)
