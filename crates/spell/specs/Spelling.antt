@@ -1,17 +1,14 @@
 -- What spelling p/q gives: the block of its key, the quotients written, and the greatest common divisor.
-use Rattle.std.specs.Prelude.{◌≡◌, true, cond, List, ℕ, ◌+◌, ◌^◌, ◌≤◌, ◌<◌, eqb, length, Result, Ok, Err}
+use Rattle.std.specs.Prelude.{true, cond, List, ℕ, ◌+◌, ◌≤◌, ◌<◌, eqb, length, Result, Ok, Err}
 use Rattle.bits.specs.Strings.{Bits, turn}
-use Rattle.bits.specs.Binary.{number_of, number_from}
 use Rattle.blocks.specs.Blocks.{block_of}
 use Rattle.families.proofs.Published.{words1983}
 use Rattle.fractions.specs.Fractions.{gcd, form_of}
 use Rattle.fractions.specs.TwoStates.{alternate}
 use Rattle.keys.specs.Keys.{spelled, key_of, count_of}
-use Rattle.spell.specs.declared.line.Line.{Line}
 use Rattle.spell.specs.declared.Spelled.{Spelled}
 use Rattle.refusals.specs.declared.Refusal.{Refusal}
 use Rattle.refusals.specs.declared.Refusal.TheVariants.{ZeroDenominator}
-use Rattle.spell.specs.Lines.{number_of_line, Small}
 
 -- a key's block, with the quotients and the divisor that belong to it
 abbrev pub spelt : Bits → ℕ → ℕ → Spelled
@@ -28,17 +25,8 @@ to_come d r = alternate true d r
 abbrev pub words_to_come : ℕ → ℕ → Bits
 words_to_come d r = turn (spelled words1983 (to_come d r))
 
--- the words still to come fit behind s
-pub record Room (d r : ℕ) (s : Line) (quotients : ℕ) : Type 0 where
+-- the words still to come fit behind what is written
+pub record Room (d r : ℕ) (line : Bits) (quotients : ℕ) : Type 0 where
   pub turned : r < d
-  pub range : d < 2 ^ 32
-  pub small : Small s
-  pub some : 1 ≤ s.bits
-  pub room : s.bits + length (words_to_come d r) ≤ 96
+  pub room : length line + length (words_to_come d r) ≤ 96
   pub few : quotients + length (to_come d r) ≤ 46
-
--- the answer is that for the string of s and the words still to come
-pub record Continued (d r : ℕ) (s : Line) (quotients : ℕ) (result : Spelled) : Type 0 where
-  pub answer : (t : Bits) → length t ≡ s.bits + length (words_to_come d r)
-      → number_of t ≡ number_from (number_of_line s) (words_to_come d r)
-      → result ≡ spelt t (quotients + length (to_come d r)) (gcd d r)

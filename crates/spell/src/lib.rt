@@ -2,8 +2,9 @@
 // out first, and the last divisor is the greatest common one.
 #![tactic(auto)]
 
-ghost use Rattle.std.specs.Prelude.{◌≡◌};
-ghost use Rattle.spell.specs.Spelling.{spelling, Continued, Room};
+ghost use Rattle.std.specs.Prelude.{◌≡◌, ◌+◌, ◌++◌, length};
+ghost use Rattle.fractions.specs.Fractions.{gcd};
+ghost use Rattle.spell.specs.Spelling.{spelling, spelt, to_come, words_to_come, Room};
 
 use blocks::Block;
 use line::Line;
@@ -19,26 +20,22 @@ pub struct Spelled {
     pub divisor: u32,
 }
 
-// The words of d/r, the turned one first, after those of s. Each turn of the loop appends a turned word and a word: no
+// The words of d/r, the turned one first, after those of line. Each turn of the loop appends a turned word and a word: no
 // flag says which is due, and a ratio that has ended has no case of its own.
-fn go_on(d0: u32, r0: u32, s0: Line, quotients0: u32) -> Spelled
-    requires { Room d0 r0 s0 quotients0 }
-    ensures { Continued d0 r0 s0 quotients0 result }
+fn go_on(mut d: u32, mut r: u32, mut line: Line, mut quotients: u32) -> Spelled
+    requires { Room d r line quotients }
+    ensures { result ≡ spelt (line ++ words_to_come d r) (quotients + length (to_come d r)) (gcd d r) }
 {
-    let mut d = d0;
-    let mut r = r0;
-    let mut s = s0;
-    let mut quotients = quotients0;
     while r != 0 {
         let t = (d - 1) % r + 1;
-        s = line::append_turned(s, (d - 1) / r);
-        s = line::append_word(s, r / t);
+        line.append_turned((d - 1) / r);
+        line.append_word(r / t);
         d = t;
-        r = r % t;
+        r %= t;
         quotients += 2;
     }
     Spelled {
-        block: line::aligned(s),
+        block: line.aligned(),
         quotients,
         divisor: d,
     }
@@ -54,20 +51,9 @@ pub fn spell(p: u32, q: u32) -> Result<Spelled, Refusal>
     let a = p / q;
     let r = p % q;
     if a == 0 {
-        let s = Line {
-            high: 0,
-            low: 0,
-            bits: 1,
-        };
-        return Ok(go_on(q, r, s, 0));
+        return Ok(go_on(q, r, Line::of(false), 0));
     }
-    let s = line::append_word(
-        Line {
-            high: 0,
-            low: 1,
-            bits: 1,
-        },
-        a,
-    );
-    Ok(go_on(q, r, s, 1))
+    let mut line = Line::of(true);
+    line.append_word(a);
+    Ok(go_on(q, r, line, 1))
 }

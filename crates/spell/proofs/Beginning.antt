@@ -2,11 +2,9 @@
 -- whole part, and then the words to come.
 use Rattle.std.specs.Prelude.{◌≡◌, refl, true, false, List, [], ◌∷◌, ◌++◌, ℕ, zero, suc, ◌+◌, ◌/◌, ◌%◌, ◌^◌, ◌≤◌, ◌<◌, Result, Ok}
 use Rattle.std.proofs.Math.Path.{sym}
-use Rattle.std.proofs.Common.{◌∙◌, ap, div-add-mod', mod-lt, one-add, arith, ne_eqb, lit<, lit≤, length-append}
+use Rattle.std.proofs.Common.{◌∙◌, ap, div-add-mod', mod-lt, one-add, arith, ne_eqb, length-append}
 use Rattle.std.proofs.Math.ListN.{length}
 use Rattle.bits.specs.Strings.{Bits, turn, closed}
-use Rattle.bits.specs.Binary.{number_of}
-use Rattle.bits.proofs.Numbers.{number-append}
 use Rattle.bits.proofs.Trim.{closed-same}
 use Rattle.blocks.specs.Blocks.{block_of}
 use Rattle.blocks.proofs.Laws.{block-same}
@@ -17,20 +15,14 @@ use Rattle.fractions.proofs.Euclid.{gcd-step}
 use Rattle.fractions.proofs.TwoStates.{alternate-word, alternate-form}
 use Rattle.keys.specs.Keys.{spelled, written, key_of, count_of}
 use Rattle.keys.proofs.Size.{written_size, count_size}
-use Rattle.spell.specs.declared.line.Line.{Line}
 use Rattle.spell.specs.declared.Spelled.{Spelled}
 use Rattle.refusals.specs.declared.Refusal.{Refusal}
-use Rattle.spell.specs.Lines.{number_of_line, Small, After}
-use Rattle.spell.specs.Spelling.{spelling, spelt, to_come, words_to_come, Room, Continued}
+use Rattle.spell.specs.Spelling.{spelling, spelt, to_come, words_to_come, Room}
 
--- s is the front of what is written for p/q, and count its quotients
-pub record Begun (p q : ℕ) (front : Bits) (s : Line) (count : ℕ) : Type 0 where
+-- front is what is written for p/q before the turned state of q and what is left, and count its quotients
+pub record Begun (p q : ℕ) (front : Bits) (count : ℕ) : Type 0 where
   pub whole : written words1983 (form_of p q) ≡ front ++ words_to_come q (p % q)
   pub counted : count_of (form_of p q) ≡ count + length (to_come q (p % q))
-  pub number : number_of_line s ≡ number_of front
-  pub bits : s.bits ≡ length front
-  pub some : 1 ≤ length front
-  pub small : Small s
 
 from_one : (a : ℕ) (l : List ℕ) → 1 ≤ a
     → (written words1983 (a ∷ l) ≡ true ∷ (word_of a ++ turn (spelled words1983 l))) × (count_of (a ∷ l) ≡ 1 + length l)
@@ -55,16 +47,12 @@ module _ (p : ℕ) {q : ℕ} (positive : 1 ≤ q) where
       ∙ alternate-word p q (p / q) (p % q) (sym (div-add-mod' p q)) (mod-lt p positive)
 
   -- below 1 the key begins with 0
-  pub begun-below : p / q ≡ 0 → Begun p q (false ∷ []) (record { high = 0; low = 0; bits = 1 }) 0
+  pub begun-below : p / q ≡ 0 → Begun p q (false ∷ []) 0
   begun-below e =
       let zero-first : form_of p q ≡ 0 ∷ to_come q (p % q) = rw e at form in
       record {
         whole = ap (written words1983) zero-first;
         counted = ap count_of zero-first ∙ omega arith;
-        number = refl;
-        bits = refl;
-        some = lit≤ tt;
-        small = lit< tt;
       }
 
   module _ (above : 1 ≤ p / q) where
@@ -72,46 +60,32 @@ module _ (p : ℕ) {q : ℕ} (positive : 1 ≤ q) where
     whole = ap (written words1983) form ∙ (from_one (p / q) (to_come q (p % q)) above).0
 
     -- from 1 on with 1 and the word of the whole part, for which there is room
-    pub begun-from : {s : Line} → After (record { high = 0; low = 1; bits = 1 }) (word_of (p / q)) s
-        → Begun p q (true ∷ word_of (p / q)) s 1
-    begun-from e = record {
+    pub begun-from : Begun p q (true ∷ word_of (p / q)) 1
+    begun-from = record {
       whole = whole;
       counted = ap count_of form ∙ (from_one (p / q) (to_come q (p % q)) above).1;
-      number = e.number;
-      bits = e.bits ∙ one-add (length (word_of (p / q)));
-      some = omega arith;
-      small = e.small;
     }
 
     pub whole-fits : p < 2 ^ 32 → q < 2 ^ 32 → 1 + length (word_of (p / q)) ≤ 96
     whole-fits high low =
         omega (arith, front-fits positive high low (true ∷ word_of (p / q)) (words_to_come q (p % q)) whole)
 
-module _ {p q : ℕ} {front : Bits} {s : Line} {count : ℕ} (positive : 1 ≤ q) (high : p < 2 ^ 32) (low : q < 2 ^ 32)
-    (b : Begun p q front s count) where
-  pub begun-room : Room q (p % q) s count
-  begun-room = record {
+module _ {p q : ℕ} {front : Bits} {count : ℕ} (positive : 1 ≤ q) (b : Begun p q front count) where
+  pub begun-room : p < 2 ^ 32 → q < 2 ^ 32 → Room q (p % q) front count
+  begun-room high low = record {
     turned = mod-lt p positive;
-    range = low;
-    small = b.small;
-    some = omega (arith, b.bits, b.some);
-    room = omega (arith, b.bits, front-fits positive high low front (words_to_come q (p % q)) b.whole);
+    room = front-fits positive high low front (words_to_come q (p % q)) b.whole;
     few = omega (arith, b.counted, count_size words1983 p q positive (omega arith) (omega arith));
   }
 
-  pub begun-answer : {result : Spelled} → Continued q (p % q) s count result
+  pub begun-answer : {result : Spelled}
+      → result ≡ spelt (front ++ words_to_come q (p % q)) (count + length (to_come q (p % q))) (gcd q (p % q))
       → ◌≡◌ {A = Result Spelled Refusal} (Ok result) (spelling p q)
   unfolding spelling key_of
-  begun-answer {result} h =
+  begun-answer e =
       let string = written words1983 (form_of p q) in
       let same : block_of string ≡ block_of (closed string) =
       sym (block-same (closed string) string (closed-same string)) in
       let divisor : gcd q (p % q) ≡ gcd p q =
       sym (gcd-step p q (p / q) (p % q) (sym (div-add-mod' p q)) (mod-lt p positive)) in
-      let counted : count + length (to_come q (p % q)) ≡ count_of (form_of p q) = sym b.counted in
-      let answer : result ≡ spelt string (count + length (to_come q (p % q))) (gcd q (p % q)) =
-      h.answer string (rw (b.whole, length-append) (omega (arith, b.bits)))
-      (rw (b.whole, b.number) (number-append 0 front (words_to_come q (p % q)))) in
-      ap Ok answer
-      ∙ rw (ne_eqb q 0 (λ e. omega arith))
-      λ i. Ok (record { block = same i; quotients = counted i; divisor = divisor i })
+      rw (e, ← b.whole, ← b.counted, divisor, same, ne_eqb q 0 (λ z. omega arith)) refl

@@ -1,0 +1,4 @@
+mod Lines
+mod Words
+mod Going
+mod Beginning
