@@ -1,6 +1,6 @@
 -- One turn of the writer's loop: a turned word and a word more, and the same string in all.
 use Rattle.std.specs.Prelude.{◌≡◌, refl, true, not, List, [], ◌∷◌, ◌++◌, ℕ, ◌+◌, ◌*◌, ◌-◌, ◌/◌, ◌%◌, ◌≤◌, ◌<◌, length}
-use Rattle.std.proofs.Common.{sym, ◌∙◌, ap, add-zero, div-add-mod', mod-lt, le-div_iff_mul-le, arith, append_assoc, append-nil, length-append}
+use Rattle.std.proofs.Common.{sym, ◌∙◌, ap, add-zero, div-add-mod', mod-lt, arith, append_assoc, append-nil, length-append}
 use Rattle.std.proofs.lemmas.List.{map-append, length-map}
 use Rattle.bits.specs.Strings.{Bits, turn}
 use Rattle.bits.proofs.Order.{turn-turn}
@@ -29,16 +29,10 @@ module _ {d r : ℕ} {line : Bits} {count : ℕ} (some : 1 ≤ r) (here : Room d
   abbrev b : ℕ
   b = r / t
 
-  pub t-below : t ≤ r
+  t-below : t ≤ r
   t-below = omega (arith, mod-lt (d - 1) some)
 
-  pub a-some : 1 ≤ a
-  a-some = (le-div_iff_mul-le some).1 (omega (arith, here.turned))
-
-  pub b-some : 1 ≤ b
-  b-some = (le-div_iff_mul-le {k = t} (omega arith)).1 (omega (arith, t-below))
-
-  pub left-below : r % t < t
+  left-below : r % t < t
   left-below = mod-lt r (omega arith)
 
   before : d ≡ a * r + t

@@ -34,7 +34,7 @@ module _ {l : Inside} {s : Bits} (line : IsLine l) (is : string_of l ≡ s) (n w
   grown = record { number = (l.number * 2 ^ n) % 2 ^ 128 + w; bits = l.bits + n }
 
   pub line_appended : IsLine grown
-  line_appended = record { some = omega (arith, line.some); few = fits; small = rw shifted small }
+  line_appended = record { few = fits; small = rw shifted small }
 
   pub string_appended : string_of grown ≡ s ++ digits_in n w
   string_appended =

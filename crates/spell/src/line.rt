@@ -1,4 +1,4 @@
-// A string of 1 to 96 bits as a number, right-aligned, with a count of its bits. A word is appended by shifting and
+// A string of at most 96 bits as a number, right-aligned, with a count of its bits. A word is appended by shifting and
 // adding.
 use blocks::Block;
 use std::marker::Model;
