@@ -2,9 +2,13 @@
 // and writes in large parts and holds two buffers, however long the input and its lines are.
 #![tactic(auto)]
 
-ghost use Rattle.std.specs.Prelude.{◌+◌, ◌≤◌, ◌<◌, length};
+ghost use Rattle.std.specs.Prelude.{◌≡◌, [], ◌++◌, ◌+◌, ◌≤◌, ◌<◌, length, take, IfOk, OnOk};
 ghost use Rattle.std.specs.Io.{ReadsAtMost};
+ghost use Rattle.std.specs.Io.KnownBytes.{Appends, ReadConsumes};
+ghost use Rattle.lines.specs.Machines.{whole};
+ghost use Rattle.list.specs.Ratios.{ratios};
 ghost use Rattle.lister.specs.Buffers.{HasRoom, IsWithin, ListsFrom};
+ghost use Rattle.lister.specs.Flow.{AddsFrom, ListsPart, Passes, WritesListing};
 
 use fields::Field;
 use list::Listed;
@@ -41,6 +45,7 @@ struct Waiting {
 // Writes what waits.
 fn put_out<W: Write>(to: &mut W, held: usize, out: &[u8]) -> Result<(), Stopped>
     requires { held ≤ length out.now }
+    ensures { OnOk result (Appends (W.contents to.old) (W.contents to.new) (take held out.now)) }
 {
     match to.write_all(&out[..held]) {
         Ok(()) => Ok(()),
@@ -51,7 +56,9 @@ fn put_out<W: Write>(to: &mut W, held: usize, out: &[u8]) -> Result<(), Stopped>
 // Room for an answer: where there is less, what waits is written. How many bytes then wait.
 fn make_room<W: Write>(to: &mut W, held: usize, out: &[u8]) -> Result<usize, Stopped>
     requires { (held ≤ length out.now) × (130 ≤ length out.now) }
-    ensures { HasRoom (length out.now) result }
+    ensures room { HasRoom (length out.now) result }
+    ensures passes { IfOk result (λ from. Passes (W.contents to.old) (W.contents to.new) (take held out.now) []
+        (take from out.now)) }
 {
     if list::ROOM <= out.len() - held {
         return Ok(held);
@@ -63,7 +70,8 @@ fn make_room<W: Write>(to: &mut W, held: usize, out: &[u8]) -> Result<usize, Sto
 // Lists what stands in part from at on, into out from held on.
 fn list_from(field: Field, part: &[u8], at: usize, out: &mut [u8], held: usize) -> Listed
     requires { (at < length part.now) × (held + 130 ≤ length out.old) }
-    ensures { ListsFrom at (length part.now) held (length out.old) result }
+    ensures counts { ListsFrom at (length part.now) held (length out.old) result }
+    ensures adds { AddsFrom field at part.now held out.old result out.new }
 {
     list::list(field, &part[at..], &mut out[held..])
 }
@@ -77,7 +85,9 @@ fn list_part<W: Write>(
     out: &mut [u8],
 ) -> Result<Waiting, Stopped>
     requires { (waiting ≤ length out.old) × (130 ≤ length out.old) }
-    ensures { IsWithin (length out.old) result }
+    ensures within { IsWithin (length out.old) result }
+    ensures lists { IfOk result (λ w. ListsPart (W.contents to.old) (W.contents to.new) begun part.now
+        (take waiting out.old) w.field (take w.held out.new)) }
 {
     let mut field = begun;
     let mut held = waiting;
@@ -95,7 +105,8 @@ fn list_part<W: Write>(
 // Lists a last line that has no newline, into out from held on; how much then waits.
 fn list_last(field: Field, out: &mut [u8], held: usize) -> usize
     requires { held ≤ length out.old }
-    ensures { result ≤ length out.old }
+    ensures within { result ≤ length out.old }
+    ensures adds { held + 130 ≤ length out.old → take result out.new ≡ take held out.old ++ whole ratios field [] }
 {
     let listed = list::finish(field, &mut out[held..]);
     held + listed.written
@@ -104,6 +115,8 @@ fn list_last(field: Field, out: &mut [u8], held: usize) -> usize
 // The end of the input.
 fn end<W: Write>(to: &mut W, field: Field, held: usize, out: &mut [u8]) -> Result<(), Stopped>
     requires { (held ≤ length out.old) × (130 ≤ length out.old) }
+    ensures { OnOk result (Appends (W.contents to.old) (W.contents to.new)
+        (take held out.old ++ whole ratios field [])) }
 {
     let from = make_room(to, held, out)?;
     let n = list_last(field, out, from);
@@ -112,7 +125,8 @@ fn end<W: Write>(to: &mut W, field: Field, held: usize, out: &mut [u8]) -> Resul
 
 // How many bytes a read put at the front of the input buffer: none at the end of the input.
 fn get_part<R: Read>(from: &mut R, input: &mut [u8]) -> Result<usize, Stopped>
-    ensures { ReadsAtMost result input.new }
+    ensures within { ReadsAtMost result input.new }
+    ensures bytes { ReadConsumes (R.remaining from.old) (R.remaining from.new) result input.new }
 {
     match from.read(input) {
         Ok(n) => Ok(n),
@@ -128,6 +142,8 @@ fn list_input<R: Read, W: Write>(
     out: &mut [u8],
 ) -> Result<(), Stopped>
     requires { 130 ≤ length out.old }
+    ensures { OnOk result (WritesListing (R.remaining from.old) (length input.old) (W.contents to.old)
+        (W.contents to.new)) }
 {
     let mut field = Field::Empty;
     let mut held = 0;
