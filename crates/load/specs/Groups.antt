@@ -1,37 +1,32 @@
 -- Eight characters in one machine word, the first in its lowest byte: read from a text, judged, and gathered.
-use Rattle.std.specs.Prelude.{◌≡◌, refl, true, List, ◌∷◌, ℕ, zero, suc, ◌+◌, ◌-◌, ◌*◌, ◌/◌, ◌%◌, ◌^◌, ◌≤◌, ◌<◌, eqb, length, get_or, take, drop}
-use Rattle.std.proofs.Common.{◌∙◌, ap, arith, eqb-true, drop-cons}
+use Rattle.std.specs.Prelude.{◌≡◌, refl, true, List, [], ◌∷◌, ℕ, zero, suc, ◌+◌, ◌-◌, ◌*◌, ◌/◌, ◌%◌, ◌^◌, ◌≤◌, ◌<◌, eqb, length, take, drop}
+use Rattle.std.specs.Int.{w64, from_le_bytes}
+use Rattle.std.proofs.Common.{◌∙◌, ap, arith, eqb-true, length-drop, length-take-le}
 use Rattle.std.proofs.Math.Decide.{dec_lt}
 use Rattle.std.specs.Int.Bits.{bit_and}
-use Rattle.std.proofs.lemmas.Nat.{and_le_l}
-use Rattle.std.proofs.lemmas.List.{length-map}
+use Rattle.std.proofs.lemmas.Nat.{and_le_l, le_bytes_8}
+use Rattle.std.proofs.lemmas.List.{length-map, get_or-drop}
 use Rattle.bits.specs.Binary.{number_of, digits_in}
 use Rattle.bits.proofs.Numbers.{number-lt}
 use Rattle.bits.proofs.Pieces.{digits-of-number}
 use Rattle.bits.specs.Texts.{char_of, text_of, bits_of_text, Bytes}
 use Rattle.blocks.specs.Bytewise.{low_bytes, ones, low_bits, table}
-use Rattle.blocks.proofs.Bytewise.{length_low, and_ones, table-at}
+use Rattle.blocks.proofs.Bytewise.{length_low, and_ones, eight-bytes, table-at}
 use Rattle.load.specs.Passing.{Plain}
 
--- n bytes from a place on as a number, lowest byte first
-abbrev pub number_at : List ℕ → ℕ → ℕ → ℕ
-number_at k i zero = 0
-number_at k i (suc n) = get_or k i 0 + 256 * number_at k (suc i) n
+bytes-take : (n : ℕ) (k : List ℕ) → Bytes k → Bytes (take n k)
+bytes-take zero k small i = omega arith
+bytes-take (suc n) [] small i = omega arith
+bytes-take (suc n) (a ∷ k) small zero = small 0
+bytes-take (suc n) (a ∷ k) small (suc i) = bytes-take n k (λ j. small (suc j)) i
 
-number_bytes_lem : (k : List ℕ) (i n : ℕ) → Bytes k → i + n ≤ length k → low_bytes n (number_at k i n) ≡ take n (drop i k)
-unfolding low_bytes
-number_bytes_lem k i zero small h = refl
-number_bytes_lem k i (suc n) small h =
-    let c = get_or k i 0 in
-    let m = number_at k (suc i) n in
-    let first : (c + 256 * m) % 256 ≡ c = omega (arith, small i) in
-    let rest : (c + 256 * m) / 256 ≡ m = omega (arith, small i) in
-    let within : i < length k = omega arith in
-    rw (first, rest, drop-cons k i 0)
-    (ap {B = List ℕ} (λ r. c ∷ r) (number_bytes_lem k (suc i) n small (omega arith)))
-
-pub eight-read : (k : List ℕ) {w : ℕ} → Bytes k → 8 ≤ length k → w ≡ number_at k 0 8 → low_bytes 8 w ≡ take 8 k
-eight-read k small h e = rw e (number_bytes_lem k 0 8 small h)
+-- eight bytes that were read from a place on are those of their number
+pub eight-read : (k : List ℕ) (at : ℕ) {w : ℕ} → at + 8 ≤ length k → Bytes k → w ≡ from_le_bytes w64 (take 8 (drop at k))
+    → low_bytes 8 w ≡ take 8 (drop at k)
+eight-read k at {w} h small e =
+    let size : length (take 8 (drop at k)) ≡ 8 = length-take-le 8 (drop at k) (rw length-drop (omega arith)) in
+    let behind : Bytes (drop at k) = λ i. rw get_or-drop (small (at + i)) in
+    eight-bytes w ∙ le_bytes_8 (take 8 (drop at k)) w size (bytes-take 8 (drop at k) behind) e
 
 plain-character : (c : ℕ) → c ≡ 48 + c % 2 → char_of (eqb c 49) ≡ c
 plain-character c e = by_size (dec_lt c 49)

@@ -1,7 +1,10 @@
 -- How far a text was found to have no strange character, one that is neither 0 nor 1: character by character, or by
 -- groups that are texts of bits.
-use Rattle.std.specs.Prelude.{◌≡◌, true, ◌||◌, ◌⊎◌, List, ◌++◌, ℕ, suc, ◌+◌, ◌-◌, ◌≤◌, ◌<◌, eqb, length, get_or, take, drop}
-use Rattle.std.proofs.Common.{sym, ◌∙◌, ap, inl, inr, add-one, arith, ne_eqb, drop_of_length-le, length-drop, take-append-drop, take_all, drop-cons, drop-drop}
+use Rattle.std.specs.Prelude.{◌≡◌, ◌≢◌, refl, Option, true, ◌||◌, ◌⊎◌, List, ◌++◌, ℕ, ◌+◌, ◌-◌, ◌≤◌, ◌<◌, eqb, length, take, drop}
+use Rattle.std.specs.Option.{MatchOption, unwrap_or}
+use Rattle.std.specs.List.{AllWithin, HoldsAt}
+use Rattle.std.proofs.lemmas.Iterator.{index_from_first}
+use Rattle.std.proofs.Common.{sym, ◌∙◌, ap, inl, inr, arith, ne_eqb, drop_of_length-le, length-drop, take-append-drop, take_all, drop-drop}
 use Rattle.std.proofs.lemmas.List.{length-map}
 use Rattle.std.proofs.Math.Seq.{drop-length}
 use Rattle.bits.proofs.Pieces.{drop-map}
@@ -20,27 +23,25 @@ Passed k i = first_strange k ≡ i + first_strange (drop i k)
 pub passed_none : (k : List ℕ) → Passed k 0
 passed_none k = omega arith
 
--- a character that is 0 or 1 passes the test for that
-is_digit_lem : (c : ℕ) → (c ≡ 48) ⊎ (c ≡ 49) → (eqb c 48 || eqb c 49) ≡ true
+-- a character that is 0 or 1, and one that is neither
+abbrev pub Digit : ℕ → Type 0
+Digit c = (c ≡ 48) ⊎ (c ≡ 49)
+
+abbrev pub Strange : ℕ → Type 0
+Strange c = (c ≢ 48) × (c ≢ 49)
+
+-- a digit passes the test for that
+is_digit_lem : (c : ℕ) → Digit c → (eqb c 48 || eqb c 49) ≡ true
 is_digit_lem c (inl e) = rw e
 is_digit_lem c (inr e) = rw e
 
--- one more such character is passed
-pub passed-more : (k : List ℕ) (i d : ℕ) → i < length k → (get_or k i d ≡ 48) ⊎ (get_or k i d ≡ 49) → Passed k i
-    → Passed k (i + 1)
+-- the first strange one, or the length where there is none
+pub strange_found : (k : List ℕ) (r : Option ℕ)
+    → MatchOption r (AllWithin Digit k 0 (length k)) (λ i. (i < length k) × HoldsAt Strange k i × AllWithin Digit k 0 i)
+    → unwrap_or r (length k) ≡ first_strange k
 unfolding first_strange
-passed-more k i d l e p =
-    let step : first_strange (drop i k) ≡ suc (first_strange (drop (suc i) k)) =
-    rw (drop-cons k i d, is_digit_lem (get_or k i d) e) in
-    rw add-one (omega arith)
-
--- one that is neither is the first
-pub passed_strange : (k : List ℕ) (i d : ℕ) → i < length k → (get_or k i d ≡ 48 → ⊥) → (get_or k i d ≡ 49 → ⊥)
-    → Passed k i → i ≡ first_strange k
-unfolding first_strange
-passed_strange k i d l a b p =
-    let step : first_strange (drop i k) ≡ 0 = rw (drop-cons k i d, ne_eqb (get_or k i d) 48 a, ne_eqb (get_or k i d) 49 b) in
-    omega arith
+strange_found k r h = sym (index_from_first first_strange Strange Digit refl
+    (λ c l s. rw (ne_eqb c 48 s.0, ne_eqb c 49 s.1)) (λ c l d. rw (is_digit_lem c d) (omega arith)) k r h)
 
 pub passed-all : (k : List ℕ) (i : ℕ) → length k ≤ i → Passed k i → i ≡ first_strange k
 unfolding first_strange

@@ -7,8 +7,6 @@ ghost use Rattle.load.specs.Passing.{Plain, Passed};
 ghost use Rattle.load.specs.Gathering.{Gathered};
 ghost use Rattle.load.specs.Fronts.{Shared};
 
-use crate::bytes;
-
 // The bits of the first characters of a text, and how many these are.
 #[derive(Clone, Copy)]
 pub struct Front {
@@ -21,7 +19,7 @@ fn group(k: &[u8], at: usize) -> u64
     requires { at + 8 ≤ length k.now }
     ensures { low_bytes 8 result ≡ take 8 (drop at k.now) }
 {
-    bytes::eight(&k[at..])
+    u64::from_le_bytes(k[at..at + 8].try_into().unwrap())
 }
 
 // Whether each character is 0 or 1, which differ in their lowest bit only.

@@ -12,7 +12,6 @@ ghost use Rattle.outcomes.specs.Refusals.{first_strange};
 use blocks::Block;
 use refusals::Refusal;
 
-mod bytes;
 mod eights;
 
 // A column's 96 bits.
@@ -23,8 +22,8 @@ pub fn load_column(c: &[u8]) -> Result<Block, Refusal>
         return Err(Refusal::WrongColumn);
     }
     Ok(Block {
-        high: bytes::four(c) * 4294967296 + bytes::four(&c[4..]),
-        low: bytes::four(&c[8..]) as u32,
+        high: u64::from_be_bytes(c[..8].try_into().unwrap()),
+        low: u32::from_be_bytes(c[8..].try_into().unwrap()),
     })
 }
 
@@ -51,17 +50,9 @@ pub fn first_strange(k: &[u8]) -> usize
     if eights::are_plain(k) {
         return k.len();
     }
-    let mut i = 0;
-    while i < k.len() {
-        let c = k[i];
-        if c != 48 {
-            if c != 49 {
-                return i;
-            }
-        }
-        i += 1;
-    }
-    i
+    k.iter()
+        .position(|&c| c != b'0' && c != b'1')
+        .unwrap_or(k.len())
 }
 
 // The first 96 characters of a text, extended by zeros. A character other than 1 counts as 0.
