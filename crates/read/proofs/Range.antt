@@ -1,5 +1,5 @@
 -- The number found says the value, or that it is over the limit: it is from 2^32 on where the value isn't.
-use Rattle.std.specs.Prelude.{◌≡◌, Bool, not, List, [], ◌∷◌, ◌++◌, ℕ, suc, ◌+◌, ◌/◌, ◌%◌, ◌^◌, ◌≤◌, ◌<◌, eqb, length}
+use Rattle.std.specs.Prelude.{◌≡◌, Bool, not, List, [], ◌∷◌, ◌++◌, ℕ, suc, ◌+◌, ◌/◌, ◌%◌, ◌^◌, ◌≤◌, ◌<◌, eqb, length, Ok, Err}
 use Rattle.std.proofs.Math.Path.{refl, ap}
 use Rattle.std.proofs.Common.{◌∙◌, subst, arith}
 use Rattle.std.proofs.Math.Bool.{true, false, cond}
@@ -15,8 +15,7 @@ use Rattle.fractions.proofs.Convergents.{forward_value, forward_grows}
 use Rattle.keys.specs.Keys.{read}
 use Rattle.keys.proofs.Reading.{read-spells}
 use Rattle.keys.proofs.Back.{value_denominator}
-use Rattle.read.specs.declared.find.Found.TheVariants as found
-use Rattle.read.specs.Finding.{packed, value_in, is_over, found_from, Finds, found_in, found_of}
+use Rattle.read.specs.Finding.{packed, ratio_in, fraction, value_in, is_over, found_from, Finds, found_in, found_of}
 use Rattle.read.proofs.Next.{not_over, within, ratio-packed}
 
 -- where the last convergent isn't over the limit, none is, and it is found
@@ -86,22 +85,22 @@ module _ (s : Bits) (r : ℕ) (f : Settles s r) where
   abbrev v : Ratio
   v = value_in s
 
-  pub answer_over : r < 2 ^ 32 → found.Over r ≡ found_of s
+  pub answer_over : r < 2 ^ 32 → Err r ≡ found_of s
   unfolding found_of
   answer_over h = by_test (is_over v) refl
     where
       by_test : (o : Bool) → is_over v ≡ o
-          → found.Over r ≡ cond o (found.Over (found_in s)) (found.Ratio v.num v.den)
-      by_test true e = ap found.Over f.number
+          → Err r ≡ cond o (Err (found_in s)) (Ok (fraction v))
+      by_test true e = ap Err f.number
       by_test false e = absurd (omega (arith, f.value e, value_denominator words1983 s))
 
-  pub answer_ratio : 2 ^ 32 ≤ r → found.Ratio (r % 2 ^ 32) (r / 2 ^ 32) ≡ found_of s
+  pub answer_ratio : 2 ^ 32 ≤ r → Ok (fraction (ratio_in r)) ≡ found_of s
   unfolding found_of
   answer_ratio h = by_test (is_over v) refl
     where
       by_test : (o : Bool) → is_over v ≡ o
-          → found.Ratio (r % 2 ^ 32) (r / 2 ^ 32) ≡ cond o (found.Over (found_in s)) (found.Ratio v.num v.den)
+          → Ok (fraction (ratio_in r)) ≡ cond o (Err (found_in s)) (Ok (fraction v))
       by_test true e = absurd (omega (arith, f.low e))
       by_test false e =
           rw (f.value e)
-          (ap (λ (w : Ratio). found.Ratio w.num w.den) (ratio-packed v (within v e).0))
+          (ap (λ (w : Ratio). Ok (fraction w)) (ratio-packed v (within v e).0))

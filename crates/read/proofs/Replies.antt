@@ -1,5 +1,6 @@
 -- What reading answers, by what judging, loading and finding gave.
-use Rattle.std.specs.Prelude.{◌≡◌, refl, Bool, true, false, cond, List, [], ◌∷◌, ℕ, ◌≤◌, length}
+use Rattle.std.specs.Prelude.{◌≡◌, refl, Bool, true, false, cond, List, [], ◌∷◌, ℕ, ◌≤◌, length, Result, Ok, Err}
+use Rattle.std.specs.Result.{IsErrAnd, MatchResult}
 use Rattle.std.proofs.Common.{◌∙◌, ap, arith}
 use Rattle.std.proofs.lemmas.List.{length-map}
 use Rattle.bits.specs.Strings as strings
@@ -11,25 +12,26 @@ use Rattle.blocks.specs.declared.Block.{Block}
 use Rattle.blocks.proofs.Laws.{block-whole}
 use Rattle.families.proofs.Published.{words1983}
 use Rattle.fractions.specs.Fractions.{Ratio}
+use Rattle.fractions.specs.declared.Fraction.{Fraction}
 use Rattle.keys.proofs.Back.{value_same}
 use Rattle.load.specs.Loading.{loaded}
-use Rattle.load.specs.Callers.{told_wrong, told-bits}
-use Rattle.load.specs.declared.Loaded.TheVariants.{Bits, WrongColumn}
-use Rattle.outcomes.specs.Outcomes.{Outcome, gives, refuses, called}
+use Rattle.load.specs.Callers.{told_wrong, told-block}
+use Rattle.outcomes.specs.Outcomes.{Outcome, leaves, gives, refuses, called}
 use Rattle.outcomes.specs.Reading.{terms, read_text, read_column}
 use Rattle.outcomes.specs.Refusals.{out_of_range}
-use Rattle.scan.specs.Judging.{judgement, number_of_fault}
-use Rattle.scan.proofs.Callers.{told_faulty, told-key}
-use Rattle.scan.specs.declared.Judged.TheVariants.{Key, Faulty}
+use Rattle.refusals.specs.declared.Refusal.{Refusal}
+use Rattle.refusals.specs.declared.Refusal.TheVariants.{OutOfRange}
+use Rattle.refusals.specs.Numbers.{number_of}
+use Rattle.refusals.specs.Answers.{answered, terms_as}
+use Rattle.scan.specs.Judging.{judgement}
+use Rattle.scan.proofs.Callers.{told_on, told-key}
 use Rattle.scan.specs.declared.Fault.{Fault}
-use Rattle.read.specs.declared.find.Found.{Found}
-use Rattle.read.specs.declared.find.Found.TheVariants as found
-use Rattle.read.specs.Finding.{value_in, is_over, found_in, found_of}
+use Rattle.read.specs.Finding.{value_in, fraction, is_over, found_in, found_of}
 
 -- the outcome of reading where only the range is left to refuse
-abbrev pub found_as : Found → Outcome
-found_as (found.Ratio p q) = gives (p ∷ q ∷ []) []
-found_as (found.Over used) = refuses 7 2 []
+abbrev pub found_as : Result Fraction ℕ → Outcome
+found_as (Ok r) = gives (terms_as r) []
+found_as (Err used) = refuses 7 2 []
 
 abbrev in_range : Ratio → Outcome
 in_range v = called (out_of_range v ∷ []) (terms v) [] []
@@ -39,7 +41,7 @@ unfolding found_of
 found-outcome s = by_test (is_over (value_in s))
   where
     by_test : (o : Bool)
-        → found_as (cond o (found.Over (found_in s)) (found.Ratio (value_in s).num (value_in s).den))
+        → found_as (cond o (Err (found_in s)) (Ok (fraction (value_in s))))
         ≡ cond o (refuses 7 2 []) (gives (terms (value_in s)) [])
     by_test true = refl
     by_test false = refl
@@ -50,27 +52,43 @@ block-outcome s h =
     let held = bits_of_block (block_of s) in
     found-outcome held ∙ ap in_range (value_same words1983 held s (block-whole s h))
 
-pub text_faulty : (k : List ℕ) (f : Fault) (at : ℕ) → Faulty f at ≡ judgement k
-    → refuses (number_of_fault f) 2 [] ≡ read_text k
-unfolding read_text
-text_faulty k f at e = let v = value_in (bits_of_text k) in told_faulty k (out_of_range v ∷ []) (terms v) [] [] f at e
+-- the answer where finding gave r, whose Err says no more than that the value is out of range
+abbrev pub Handed : Result Fraction ℕ → Result Fraction Refusal → Type 0
+Handed r a = MatchResult r (λ x. a ≡ Ok x) (λ used. IsErrAnd a (λ e. e ≡ OutOfRange))
 
-pub text-found : (k : List ℕ) (b : Block) (r : Found) → Key ≡ judgement k → b ≡ block_of (bits_of_text k)
-    → r ≡ found_of (bits_of_block b) → found_as r ≡ read_text k
-unfolding read_text
-text-found k b r e l f =
-    let v = value_in (bits_of_text k) in
-    let (h, o) = told-key k (out_of_range v ∷ []) (terms v) [] [] e in
-    rw (f, l) (block-outcome (bits_of_text k) (rw length-map h) ∙ o)
+handed-as : (r : Result Fraction ℕ) (a : Result Fraction Refusal) → Handed r a → leaves (answered 2 terms_as a) [] ≡ found_as r
+handed-as (Ok x) a h = rw h refl
+handed-as (Err used) (Ok x) h = absurd h
+handed-as (Err used) (Err e) h = rw h refl
 
-pub column_wrong : (c : List ℕ) → WrongColumn ≡ loaded c → refuses 9 2 [] ≡ read_column c
-unfolding read_column
-column_wrong c e = let v = value_in (bits_of_bytes c) in told_wrong c (out_of_range v ∷ []) (terms v) [] [] e
+module _ (k : List ℕ) where
+  abbrev text_value : Ratio
+  text_value = value_in (bits_of_text k)
 
-pub column-found : (c : List ℕ) (b : Block) (r : Found) → Bits b ≡ loaded c → r ≡ found_of (bits_of_block b)
-    → found_as r ≡ read_column c
-unfolding read_column
-column-found c b r e f =
-    let v = value_in (bits_of_bytes c) in
-    let (h, (l, o)) = told-bits c (out_of_range v ∷ []) (terms v) [] [] b e in
-    rw (f, l) (block-outcome (bits_of_bytes c) (omega (arith, bits-length c)) ∙ o)
+  pub text_faulty : (a : Result Fraction Refusal) (f : Fault) → Err f ≡ judgement k → IsErrAnd a (λ e. e ≡ f.refusal)
+      → leaves (answered 2 terms_as a) [] ≡ read_text k
+  unfolding read_text
+  text_faulty = told_on k (out_of_range text_value ∷ []) (terms text_value) [] [] terms_as
+
+  pub text-found : Ok tt ≡ judgement k → (b : Block) → b ≡ block_of (bits_of_text k) → (r : Result Fraction ℕ)
+      → r ≡ found_of (bits_of_block b) → (a : Result Fraction Refusal) → Handed r a
+      → leaves (answered 2 terms_as a) [] ≡ read_text k
+  unfolding read_text
+  text-found e b l r f a h =
+      let (m, o) = told-key k (out_of_range text_value ∷ []) (terms text_value) [] [] e in
+      handed-as r a h ∙ rw (f, l) (block-outcome (bits_of_text k) (rw length-map m) ∙ o)
+
+module _ (c : List ℕ) where
+  abbrev column_value : Ratio
+  column_value = value_in (bits_of_bytes c)
+
+  pub column_wrong : (f : Refusal) → Err f ≡ loaded c → refuses (number_of f) 2 [] ≡ read_column c
+  unfolding read_column
+  column_wrong = told_wrong c (out_of_range column_value ∷ []) (terms column_value) [] []
+
+  pub column-found : (b : Block) → Ok b ≡ loaded c → (r : Result Fraction ℕ) → r ≡ found_of (bits_of_block b)
+      → (a : Result Fraction Refusal) → Handed r a → leaves (answered 2 terms_as a) [] ≡ read_column c
+  unfolding read_column
+  column-found b e r f a h =
+      let (m, (l, o)) = told-block c (out_of_range column_value ∷ []) (terms column_value) [] [] b e in
+      handed-as r a h ∙ rw (f, l) (block-outcome (bits_of_bytes c) (omega (arith, bits-length c)) ∙ o)

@@ -1,17 +1,16 @@
 -- Reading by forward convergents: the first that is over the limit settles that the value is, at the quotient that
 -- caused it.
-use Rattle.std.specs.Prelude.{◌≡◌, Bool, true, false, cond, List, [], ◌∷◌, ℕ, ◌+◌, ◌*◌, ◌/◌, ◌%◌, ◌^◌, ◌≤◌, ◌<◌, length}
+use Rattle.std.specs.Prelude.{◌≡◌, Bool, true, false, cond, List, [], ◌∷◌, ℕ, ◌+◌, ◌*◌, ◌/◌, ◌%◌, ◌^◌, ◌≤◌, ◌<◌, length, Result, Ok, Err}
 use Rattle.bits.specs.Strings.{Bits, turn}
 use Rattle.blocks.specs.Blocks.{bits_of_block}
 use Rattle.families.specs.Words.{word_of}
 use Rattle.families.proofs.Published.{words1983}
 use Rattle.fractions.specs.Fractions.{Ratio, ◌over◌}
+use Rattle.fractions.specs.declared.Fraction.{Fraction}
 use Rattle.fractions.specs.Convergents.{convergent, forward}
 use Rattle.keys.specs.Keys.{read, value_of_key}
 use Rattle.keys.specs.Places.{quotients_at}
 use Rattle.outcomes.specs.Refusals.{out_of_range}
-use Rattle.read.specs.declared.find.Found.{Found}
-use Rattle.read.specs.declared.find.Found.TheVariants as found
 
 -- a ratio in one number, denominator above numerator, and back
 abbrev pub packed : Ratio → ℕ
@@ -22,6 +21,10 @@ ratio_in n = (n % 2 ^ 32) over (n / 2 ^ 32)
 
 abbrev pub bits_in : ℕ → ℕ → Bits
 bits_in high low = bits_of_block (record { high = high; low = low })
+
+-- a ratio as it is answered
+abbrev pub fraction : Ratio → Fraction
+fraction r = record { numerator = r.num; denominator = r.den }
 
 -- the value of a string
 abbrev pub value_in : Bits → Ratio
@@ -59,6 +62,6 @@ found_in (true ∷ s) = found_from 1 (1 over 0) (0 over 1) (read words1983 false
 found_in (false ∷ s) = found_from 1 (0 over 1) (1 over 0) (read words1983 true (turn s))
 
 -- the value of a string, or the characters used before the quotient by which it is over the limit
-unfoldable pub found_of : Bits → Found
+unfoldable pub found_of : Bits → Result Fraction ℕ
 found_of s =
-    let v = value_in s in cond (is_over v) (found.Over (found_in s)) (found.Ratio v.num v.den)
+    let v = value_in s in cond (is_over v) (Err (found_in s)) (Ok (fraction v))

@@ -8,14 +8,8 @@ ghost use Rattle.fractions.specs.Convergents.{convergent};
 ghost use Rattle.read.specs.Finding.{ratio_in, limited, bits_in, Ready, Finds, found_of};
 
 use blocks::Block;
-use scan::{Kind, Place, Taken};
-
-// used: the characters before the quotient that left the range.
-#[derive(Clone, Copy)]
-pub enum Found {
-    Ratio { num: u32, den: u32 },
-    Over { used: usize },
-}
+use fractions::Fraction;
+use scan::{Kind, Place};
 
 // The next convergent, or 0 where it is over the limit. Its terms fit, whatever the three numbers are.
 #[tactic(auto, using(crate::proofs::Next::limited_over, crate::proofs::Next::limited_within))]
@@ -47,15 +41,15 @@ fn find_word(high: u64, low: u32, used: usize, u: u64, v: u64) -> u64
             due: Kind::Word,
         },
     ) {
-        Taken::Quotient { value, characters } => {
-            let w = next(value, u, v);
+        Ok(Some(word)) => {
+            let w = next(word.value, u, v);
             if w == 0 {
                 return used as u64;
             }
-            find_turned(high, low, used + characters, w, u)
+            find_turned(high, low, used + word.characters, w, u)
         }
-        Taken::Long => used as u64,
-        Taken::End => u,
+        Err(_) => used as u64,
+        Ok(None) => u,
     }
 }
 
@@ -72,21 +66,21 @@ fn find_turned(high: u64, low: u32, used: usize, u: u64, v: u64) -> u64
             due: Kind::Turned,
         },
     ) {
-        Taken::Quotient { value, characters } => {
-            let w = next(value, u, v);
+        Ok(Some(word)) => {
+            let w = next(word.value, u, v);
             if w == 0 {
                 return used as u64;
             }
-            find_word(high, low, used + characters, w, u)
+            find_word(high, low, used + word.characters, w, u)
         }
-        Taken::Long => used as u64,
-        Taken::End => u,
+        Err(_) => used as u64,
+        Ok(None) => u,
     }
 }
 
-// The value of a block's string, or which quotient left the range. The first character gives the first convergents: 1/0
+// The value of a block's string, or the characters before the quotient that left the range. The first character gives the first convergents: 1/0
 // and 0/1 before a word, and after the quotient 0 those before a turned word, 0/1 and 1/0.
-pub fn find(b: Block) -> Found
+pub fn find(b: Block) -> Result<Fraction, usize>
     ensures { result ≡ found_of (bits_of_block b) }
 {
     let high = b.high;
@@ -97,10 +91,10 @@ pub fn find(b: Block) -> Found
         find_word(high, low, 1, 1, 4294967296)
     };
     if r < 4294967296 {
-        return Found::Over { used: r as usize };
+        return Err(r as usize);
     }
-    Found::Ratio {
-        num: (r % 4294967296) as u32,
-        den: (r / 4294967296) as u32,
-    }
+    Ok(Fraction {
+        numerator: (r % 4294967296) as u32,
+        denominator: (r / 4294967296) as u32,
+    })
 }

@@ -1,12 +1,13 @@
--- Each way is what loading and finding gave, by `proofs/Replies.antt`.
+-- A refusal is handed on; else the outcome is what finding gave, by `proofs/Replies.antt`.
+use Rattle.std.proofs.lemmas.Result.{err_from_is_err_and}
+use Rattle.std.proofs.Common.{rules}
 use Rattle.read.proofs.Replies.{column_wrong, column-found}
 use Rattle.read.proofs.read_column.Goals as goal
 
-pub returns-in-WrongColumn : goal.returns-in-WrongColumn
-returns-in-WrongColumn c = column_wrong _ c.in-WrongColumn.ensures
+pub returns-in_err-block : goal.returns-in_err-block
+returns-in_err-block c =
+    let p = err_from_is_err_and c.from_residual.result c.from_residual.ensures.1 in
+    rw (p.1, p.2) (column_wrong _ _ c.in_err-block.ensures)
 
-pub returns-in-Ratio : goal.returns-in-Ratio
-returns-in-Ratio c = column-found _ _ _ c.in-Bits.ensures c.in-Ratio.ensures
-
-pub returns-in-Over : goal.returns-in-Over
-returns-in-Over c = column-found _ _ _ c.in-Bits.ensures c.in-Over.ensures
+pub returns : goal.returns
+returns c = column-found _ _ c.in_ok-block.ensures _ c.find.ensures _ (search rules)

@@ -1,12 +1,10 @@
--- Each way is what judging, loading and finding gave, by `proofs/Replies.antt`.
+-- A fault is handed on; else the outcome is what loading and finding gave, by `proofs/Replies.antt`.
+use Rattle.std.proofs.Common.{rules}
 use Rattle.read.proofs.Replies.{text_faulty, text-found}
 use Rattle.read.proofs.read_text.Goals as goal
 
-pub returns-in-Faulty : goal.returns-in-Faulty
-returns-in-Faulty c = text_faulty _ _ _ c.in-Faulty.ensures
+pub returns-in_err-judge : goal.returns-in_err-judge
+returns-in_err-judge c = text_faulty _ _ _ c.in_err-judge.ensures c.from_residual.ensures.1
 
-pub returns-in-Ratio : goal.returns-in-Ratio
-returns-in-Ratio c = text-found _ _ _ c.in-Key.ensures c.load_text.ensures c.in-Ratio.ensures
-
-pub returns-in-Over : goal.returns-in-Over
-returns-in-Over c = text-found _ _ _ c.in-Key.ensures c.load_text.ensures c.in-Over.ensures
+pub returns : goal.returns
+returns c = text-found _ c.in_ok-judge.ensures _ c.load_text.ensures _ c.find.ensures _ (search rules)

@@ -9,13 +9,13 @@ use Rattle.read.proofs.find.+find_turned_find_word.Goals.{find_turned-Else-w-eq0
 
 pub find_turned-returns-then-w-eq0 : goal.find_turned-returns-then-w-eq0
 find_turned-returns-then-w-eq0 t c =
-    found_over (record { taken = c.in-Quotient.ensures; made = c.next-w.ensures }) (omega arith) c.if-w-eq0.true
+    found_over (record { taken = rw c.in-Ok-Some.field-0-is at c.in-Ok-Some.ensures; made = c.next-w.ensures }) (omega arith) c.if-w-eq0.true
     (omega arith)
 
 -- the turned word that was taken, and the convergent that it makes
-turned_makes : (t : ℕ) (c : find_turned-Else-w-eq0 t) → let b = c.args in let w = c.in-Quotient in
+turned_makes : (t : ℕ) (c : find_turned-Else-w-eq0 t) → let b = c.args in let w = c.in-Ok-Some.word in
     Makes (bits_in b.high b.low) b.used true b.u b.v w.value w.characters c.next-w.result
-turned_makes t c = record { taken = c.in-Quotient.ensures; made = c.next-w.ensures }
+turned_makes t c = record { taken = rw c.in-Ok-Some.field-0-is at c.in-Ok-Some.ensures; made = c.next-w.ensures }
 
 pub find_turned-overflow_add-used : goal.find_turned-overflow_add-used
 find_turned-overflow_add-used t c =
@@ -31,25 +31,25 @@ find_turned-find_word-requires t c =
 
 pub find_turned-returns-else-w-eq0 : goal.find_turned-returns-else-w-eq0
 find_turned-returns-else-w-eq0 t c =
-    found_on (record { taken = c.in-Quotient.ensures; made = c.next-w.ensures }) (omega arith) c.find_word.ensures
+    found_on (record { taken = rw c.in-Ok-Some.field-0-is at c.in-Ok-Some.ensures; made = c.next-w.ensures }) (omega arith) c.find_word.ensures
 
-pub find_turned-returns-in-Long : goal.find_turned-returns-in-Long
-find_turned-returns-in-Long t c =
-    found_long c.in-Long.ensures (omega arith) (omega arith)
+pub find_turned-returns-in-Err : goal.find_turned-returns-in-Err
+find_turned-returns-in-Err t c =
+    found_long c.in-Err.ensures (omega arith) (omega arith)
 
-pub find_turned-returns-in-End : goal.find_turned-returns-in-End
-find_turned-returns-in-End t c =
-    found-end c.in-End.ensures (omega arith)
+pub find_turned-returns-in-Ok-None : goal.find_turned-returns-in-Ok-None
+find_turned-returns-in-Ok-None t c =
+    found-end (rw c.in-Ok-None.field-0-is at c.in-Ok-None.ensures) (omega arith)
 
 pub find_word-returns-then-w-eq0 : goal.find_word-returns-then-w-eq0
 find_word-returns-then-w-eq0 t c =
-    found_over (record { taken = c.in-Quotient.ensures; made = c.next-w.ensures }) (omega arith) c.if-w-eq0.true
+    found_over (record { taken = rw c.in-Ok-Some.field-0-is at c.in-Ok-Some.ensures; made = c.next-w.ensures }) (omega arith) c.if-w-eq0.true
     (omega arith)
 
 -- the word that was taken, and the convergent that it makes
-word_makes : (t : ℕ) (c : find_word-Else-w-eq0 t) → let b = c.args in let w = c.in-Quotient in
+word_makes : (t : ℕ) (c : find_word-Else-w-eq0 t) → let b = c.args in let w = c.in-Ok-Some.word in
     Makes (bits_in b.high b.low) b.used false b.u b.v w.value w.characters c.next-w.result
-word_makes t c = record { taken = c.in-Quotient.ensures; made = c.next-w.ensures }
+word_makes t c = record { taken = rw c.in-Ok-Some.field-0-is at c.in-Ok-Some.ensures; made = c.next-w.ensures }
 
 pub find_word-overflow_add-used : goal.find_word-overflow_add-used
 find_word-overflow_add-used t c =
@@ -64,12 +64,12 @@ find_word-find_turned-requires t c =
 
 pub find_word-returns-else-w-eq0 : goal.find_word-returns-else-w-eq0
 find_word-returns-else-w-eq0 t c =
-    found_on (record { taken = c.in-Quotient.ensures; made = c.next-w.ensures }) (omega arith) c.find_turned.ensures
+    found_on (record { taken = rw c.in-Ok-Some.field-0-is at c.in-Ok-Some.ensures; made = c.next-w.ensures }) (omega arith) c.find_turned.ensures
 
-pub find_word-returns-in-Long : goal.find_word-returns-in-Long
-find_word-returns-in-Long t c =
-    found_long c.in-Long.ensures (omega arith) (omega arith)
+pub find_word-returns-in-Err : goal.find_word-returns-in-Err
+find_word-returns-in-Err t c =
+    found_long c.in-Err.ensures (omega arith) (omega arith)
 
-pub find_word-returns-in-End : goal.find_word-returns-in-End
-find_word-returns-in-End t c =
-    found-end c.in-End.ensures (omega arith)
+pub find_word-returns-in-Ok-None : goal.find_word-returns-in-Ok-None
+find_word-returns-in-Ok-None t c =
+    found-end (rw c.in-Ok-None.field-0-is at c.in-Ok-None.ensures) (omega arith)
