@@ -5,7 +5,6 @@ ghost use Rattle.std.specs.Prelude.{◌≡◌, ◌+◌, ◌*◌, ◌^◌, ◌≤
 ghost use Rattle.tables.specs.Layouts.{stock_rows};
 ghost use Rattle.tables.specs.Rows.{row_size, rows_in};
 ghost use Rattle.tables.specs.Moves.{row_at};
-ghost use Rattle.outcomes.specs.BlockOrder.{block_below};
 ghost use Rattle.outcomes.specs.Stocking.{wrong_size};
 ghost use Rattle.judge.specs.Judging.{falls_at, passed_at, judged_rows, judged};
 
@@ -30,18 +29,11 @@ pub fn row_at(m: &[u8], i: usize) -> Row
     }
 }
 
-// Whether a key stands before another. The high words nearly always decide.
-pub fn is_below(a: Block, b: Block) -> bool
-    ensures { result ≡ block_below a b }
-{
-    a < b
-}
-
 // Whether the key of row i doesn't stand behind that of the row before it. The first row has none before it.
 fn falls(i: usize, last: Block, block: Block) -> bool
     ensures { result ≡ falls_at i last block }
 {
-    i != 0 && !is_below(last, block)
+    i != 0 && !(last < block)
 }
 
 // How many rows at the front stand before a key, where below of the i rows in front of this one do.
@@ -49,7 +41,7 @@ fn pass(below: usize, i: usize, block: Block, key: Block) -> usize
     requires { i + 1 < 2 ^ 64 }
     ensures { result ≡ passed_at below i block key }
 {
-    if below == i && is_below(block, key) {
+    if below == i && block < key {
         i + 1
     } else {
         below

@@ -1,24 +1,8 @@
 // The numbers of a row, read where it stands in memory.
-ghost use Rattle.std.specs.Prelude.{◌≡◌, ◌+◌, ◌≤◌, ◌<◌, length, take, drop};
-ghost use Rattle.tables.specs.Rows.{low_number, row_of};
+ghost use Rattle.std.specs.Prelude.{◌≡◌, ◌+◌, ◌≤◌, length, drop};
+ghost use Rattle.tables.specs.Rows.{row_of};
 
 use tables::Row;
-
-// A byte as a number of 32 bits.
-fn wide(byte: u8) -> u32
-    ensures value { result ≡ byte }
-    ensures upper_bound { result < 256 }
-{
-    byte as u32
-}
-
-// Four bytes, lowest first. The compiler makes one load of them.
-fn four(m: &[u8]) -> u32
-    requires { 4 ≤ length m.now }
-    ensures { result ≡ low_number (take 4 m.now) }
-{
-    wide(m[0]) + wide(m[1]) * 256 + wide(m[2]) * 65536 + wide(m[3]) * 16777216
-}
 
 // The row that begins at a place.
 pub fn row_from(m: &[u8], at: usize) -> Row
@@ -26,8 +10,8 @@ pub fn row_from(m: &[u8], at: usize) -> Row
     ensures { result ≡ row_of (drop at m.now) }
 {
     Row {
-        numerator: four(&m[at..]),
-        denominator: four(&m[at + 4..]),
-        quantity: four(&m[at + 8..]),
+        numerator: u32::from_le_bytes(m[at..at + 4].try_into().unwrap()),
+        denominator: u32::from_le_bytes(m[at + 4..at + 8].try_into().unwrap()),
+        quantity: u32::from_le_bytes(m[at + 8..at + 12].try_into().unwrap()),
     }
 }
