@@ -5,63 +5,60 @@ ghost use Rattle.std.specs.Prelude.{◌≡◌};
 ghost use Rattle.tables.specs.Layouts.{stock_rows};
 ghost use Rattle.outcomes.specs.Outcomes.{leaves};
 ghost use Rattle.outcomes.specs.Stocking.{stock_call, find, list_from};
+ghost use Rattle.refusals.specs.Answers.{answered};
 ghost use Rattle.lookup.specs.Answers.{found_as, listed_as};
+ghost use Rattle.lookup.specs.Places.{place_of};
 
-use seek::{Fault, Sought};
+use refusals::Refusal;
+use seek::Sought;
 use tables::Row;
 
+// Where a ratio's row stands, and what it holds.
 #[derive(Clone, Copy)]
-pub enum Found {
-    Row { index: usize, quantity: u32 },
-    NoSuchRatio,
-    Faulty(Fault),
+pub struct Found {
+    pub index: usize,
+    pub quantity: u32,
 }
 
 // The row of p/q.
-pub fn find(table: &[u8], used: usize, p: u32, q: u32) -> Found
-    ensures { leaves (found_as result) table.now ≡ stock_call stock_rows (find p q) used table.now }
+pub fn find(table: &[u8], used: usize, p: u32, q: u32) -> Result<Found, Refusal>
+    ensures { leaves (answered 2 found_as result) table.now
+        ≡ stock_call stock_rows (find p q) used table.now }
 {
-    match seek::seek(table, used, p, q) {
-        Sought::Faulty(fault) => Found::Faulty(fault),
-        Sought::Absent {
-            index: _,
-            numerator: _,
-            denominator: _,
-        } => Found::NoSuchRatio,
-        Sought::Here { index, row } => Found::Row {
+    match seek::seek(table, used, p, q)? {
+        Sought::Here { index, row } => Ok(Found {
             index,
             quantity: row.quantity,
-        },
+        }),
+        Sought::Absent { .. } => Err(Refusal::NoSuchRatio),
     }
 }
 
+// Where the first row at or above the ratio stands, if there is one.
+fn place(sought: Sought) -> usize
+    ensures { result ≡ place_of sought }
+{
+    match sought {
+        Sought::Here { index, .. } | Sought::Absent { index, .. } => index,
+    }
+}
+
+// A row, and where it stands.
 #[derive(Clone, Copy)]
-pub enum Listed {
-    Row { index: usize, row: Row },
-    NoRow,
-    Faulty(Fault),
+pub struct Listed {
+    pub index: usize,
+    pub row: Row,
 }
 
 // The first row at or above p/q.
-pub fn list_from(table: &[u8], used: usize, p: u32, q: u32) -> Listed
-    ensures { leaves (listed_as result) table.now
+pub fn list_from(table: &[u8], used: usize, p: u32, q: u32) -> Result<Option<Listed>, Refusal>
+    ensures { leaves (answered 5 listed_as result) table.now
         ≡ stock_call stock_rows (list_from p q) used table.now }
 {
-    match seek::seek(table, used, p, q) {
-        Sought::Faulty(fault) => Listed::Faulty(fault),
-        Sought::Here { index, row } => Listed::Row { index, row },
-        Sought::Absent {
-            index,
-            numerator: _,
-            denominator: _,
-        } => {
-            if index < used {
-                return Listed::Row {
-                    index,
-                    row: judge::row_at(table, index),
-                };
-            }
-            Listed::NoRow
-        }
+    let index = place(seek::seek(table, used, p, q)?);
+    if index < used {
+        let row = judge::row_at(table, index);
+        return Ok(Some(Listed { index, row }));
     }
+    Ok(None)
 }

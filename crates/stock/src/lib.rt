@@ -5,86 +5,47 @@ ghost use Rattle.std.specs.Prelude.{◌≡◌};
 ghost use Rattle.tables.specs.Layouts.{stock_rows};
 ghost use Rattle.outcomes.specs.Outcomes.{leaves};
 ghost use Rattle.outcomes.specs.Stocking.{stock_call, put_in};
-ghost use Rattle.stock.specs.Answers.{stocked_as};
+ghost use Rattle.refusals.specs.Answers.{answered};
+ghost use Rattle.seek.specs.Answers.{stocked_as};
 
-use seek::{Fault, Sought};
-use tables::Row;
-
-// The bytes of a row.
-const ROW: usize = 12;
-
-// How many rows are used now, the index of the ratio's row, and its quantity. A refused call gives no count: the
-// caller's own stands.
-#[derive(Clone, Copy)]
-pub enum Stocked {
-    Row {
-        used: usize,
-        index: usize,
-        quantity: u32,
-    },
-    NoQuantity,
-    LargeSum,
-    TableFull,
-    Faulty(Fault),
-}
+use refusals::Refusal;
+use seek::Sought;
+use tables::{Row, Stocked};
 
 // Puts n of p/q in: adds to its row, or makes one in its place.
-pub fn put_in(table: &mut [u8], used: usize, p: u32, q: u32, n: u32) -> Stocked
-    ensures { leaves (stocked_as result) table.new
+pub fn put_in(table: &mut [u8], used: usize, p: u32, q: u32, n: u32) -> Result<Stocked, Refusal>
+    ensures { leaves (answered 3 stocked_as result) table.new
         ≡ stock_call stock_rows (put_in p q n) used table.old }
 {
-    match seek::seek(table, used, p, q) {
-        Sought::Faulty(fault) => Stocked::Faulty(fault),
+    let sought = seek::seek(table, used, p, q)?;
+    if n == 0 {
+        return Err(Refusal::NoQuantity);
+    }
+    match sought {
         Sought::Here { index, row } => {
-            if n == 0 {
-                return Stocked::NoQuantity;
-            }
-            let held = row.quantity;
-            if 4294967295 - held < n {
-                return Stocked::LargeSum;
-            }
-            let quantity = held + n;
-            rows::put(
-                table,
-                index,
-                Row {
-                    numerator: row.numerator,
-                    denominator: row.denominator,
-                    quantity,
-                },
-            );
-            Stocked::Row {
+            let quantity = row.quantity.checked_add(n).ok_or(Refusal::LargeSum)?;
+            rows::put(table, index, Row { quantity, ..row });
+            Ok(Stocked {
                 used,
                 index,
                 quantity,
-            }
+            })
         }
-        Sought::Absent {
-            index,
-            numerator,
-            denominator,
-        } => {
-            if n == 0 {
-                return Stocked::NoQuantity;
+        Sought::Absent { index, fraction } => {
+            if used == table.len() / Row::SIZE {
+                return Err(Refusal::TableFull);
             }
-            if used == table.len() / ROW {
-                return Stocked::TableFull;
-            }
-            shift::insert(
-                table,
-                index,
-                used,
-                Row {
-                    numerator,
-                    denominator,
-                    quantity: n,
-                },
-            );
-            Stocked::Row {
+            let row = Row {
+                numerator: fraction.numerator,
+                denominator: fraction.denominator,
+                quantity: n,
+            };
+            shift::insert(table, index, used, row);
+            Ok(Stocked {
                 used: used + 1,
                 index,
                 quantity: n,
-            }
+            })
         }
     }
 }

@@ -1,36 +1,44 @@
--- Each way is what seeking and storing gave, by `specs/Taking.antt`.
-use Rattle.std.proofs.Common.{rules, arith}
+-- Each way is what seeking and storing gave, by `proofs/Taking.antt`.
+use Rattle.std.proofs.Common.{refl, ◌∙◌, rules, arith}
 use Rattle.bits.specs.Texts.{Bytes}
-use Rattle.seek.specs.Callers.{here-within}
-use Rattle.draw.specs.Taking.{take_faulty, none_taken, none_there, take_none, take_few, take-some, take-all}
+use Rattle.outcomes.specs.Stocking.{take_out}
+use Rattle.seek.specs.Answers.{stocked_as}
+use Rattle.seek.specs.Callers.{told_on, here-within}
+use Rattle.seek.proofs.Changing.{refused_on}
+use Rattle.draw.proofs.Taking.{take_none, none_there, take_few, take-some, take-all}
 use Rattle.draw.proofs.take_out.Goals as goal
 
-pub returns-in-Faulty : goal.returns-in-Faulty
-returns-in-Faulty c = take_faulty _ _ _ _ _ _ c.in-Faulty.ensures
+pub returns-in_err-sought : goal.returns-in_err-sought
+returns-in_err-sought c =
+    told_on _ _ _ _ (take_out _ _ _) refl stocked_as _ c.in_err-sought.ensures c.from_residual.ensures.1
+
+pub returns-then-n-eq0 : goal.returns-then-n-eq0
+returns-then-n-eq0 c = take_none _ _ _ _ _ _ c.in_ok-sought.ensures (omega arith)
 
 -- of a ratio that has no row
-pub returns-then-n-eq0 : goal.returns-then-n-eq0
-returns-then-n-eq0 c = none_taken _ _ _ _ _ _ _ _ c.in-Absent.ensures (omega arith)
-
-pub returns-else-n-eq0 : goal.returns-else-n-eq0
-returns-else-n-eq0 c = none_there _ _ _ _ _ _ _ _ c.in-Absent.ensures (omega arith)
+pub returns-in_default : goal.returns-in_default
+returns-in_default c =
+    none_there _ _ _ _ _ (omega arith) (rw c.in_default.is at c.in_ok-sought.ensures)
 
 -- of a row that is there
-pub returns-then-n-eq0-2 : goal.returns-then-n-eq0-2
-returns-then-n-eq0-2 c = take_none _ _ _ _ _ _ _ c.in-Here.ensures (omega arith)
-
-pub returns-then-held-n : goal.returns-then-held-n
-returns-then-held-n c = take_few _ _ _ _ _ _ _ c.in-Here.ensures (omega arith) (omega arith)
+pub returns-in_err-quantity : goal.returns-in_err-quantity
+returns-in_err-quantity c =
+    let few = rw c.in_err-quantity.ensures.ok_part at c.checked_sub.ensures in
+    refused_on 3 stocked_as _ _ _ _ c.in_err-quantity.ensures.value c.from_residual-in_err-quantity.ensures.1
+    ∙ take_few _ _ _ _ _ (omega arith) (rw c.in-Here.is at c.in_ok-sought.ensures) (omega arith)
 
 pub overflow_sub-result : goal.overflow_sub-result
-overflow_sub-result c = omega (arith, here-within _ _ _ _ _ _ c.in-Here.ensures)
+overflow_sub-result c =
+    omega (arith, here-within _ _ _ _ (rw c.in-Here.is at c.in_ok-sought.ensures))
 
 pub returns-then-quantity-eq0 : goal.returns-then-quantity-eq0
 returns-then-quantity-eq0 c =
     let bytes : Bytes c.args.table.now = λ i. search rules in
-    take-all _ _ _ _ _ _ _ c.in-Here.ensures (omega arith) bytes (omega arith) c.remove.ensures
+    take-all _ _ _ _ _ (omega arith) (rw c.in-Here.is at c.in_ok-sought.ensures) bytes
+    (rw c.in_ok-quantity.ensures.ok_part at c.checked_sub.ensures) (omega arith) c.remove.ensures
 
-pub returns-else-quantity-eq0 : goal.returns-else-quantity-eq0
-returns-else-quantity-eq0 c =
+pub returns : goal.returns
+returns c =
     let bytes : Bytes c.args.table.now = λ i. search rules in
-    take-some _ _ _ _ _ _ _ c.in-Here.ensures (omega arith) bytes (omega arith) c.put.ensures
+    take-some _ _ _ _ _ (omega arith) (rw c.in-Here.is at c.in_ok-sought.ensures) bytes
+    (rw c.in_ok-quantity.ensures.ok_part at c.checked_sub.ensures) (omega arith) c.put.ensures

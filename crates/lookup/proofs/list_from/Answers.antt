@@ -1,16 +1,13 @@
--- Each way is what seeking gave, by `specs/Finding.antt`.
-use Rattle.std.proofs.Common.{arith}
-use Rattle.lookup.specs.Finding.{list_faulty, list-here, list-above, list_none}
+-- Each way is what seeking gave, by `proofs/Finding.antt`.
+use Rattle.lookup.proofs.Finding.{list_refused, list-row, list_none}
 use Rattle.lookup.proofs.list_from.Goals as goal
 
-pub returns-in-Faulty : goal.returns-in-Faulty
-returns-in-Faulty c = list_faulty _ _ _ _ _ c.in-Faulty.ensures
-
-pub returns-in-Here : goal.returns-in-Here
-returns-in-Here c = list-here _ _ _ _ _ _ c.in-Here.ensures
+pub returns-in_err-seek : goal.returns-in_err-seek
+returns-in_err-seek c = list_refused _ _ _ _ _ c.in_err-seek.ensures c.from_residual.ensures.1
 
 pub returns-then-index-used : goal.returns-then-index-used
-returns-then-index-used c = list-above _ _ _ _ _ _ _ c.in-Absent.ensures (omega arith) _ c.row_at.ensures
+returns-then-index-used c =
+    list-row _ _ _ _ _ c.in_ok-seek.ensures _ c.place-index.ensures c.if-index-used.true _ c.row_at-row.ensures
 
-pub returns-else-index-used : goal.returns-else-index-used
-returns-else-index-used c = list_none _ _ _ _ _ _ _ c.in-Absent.ensures (omega arith)
+pub returns : goal.returns
+returns c = list_none _ _ _ _ _ c.in_ok-seek.ensures _ c.place-index.ensures c.if-index-used.false

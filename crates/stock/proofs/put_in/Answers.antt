@@ -1,39 +1,47 @@
--- Each way is what seeking and storing gave, by `specs/Putting.antt`.
-use Rattle.std.proofs.Common.{rules, arith}
+-- Each way is what seeking and storing gave, by `proofs/Putting.antt`.
+use Rattle.std.proofs.Common.{◌≡◌, refl, ◌∙◌, ◌+◌, ◌≤◌, ap, rules, arith}
 use Rattle.bits.specs.Texts.{Bytes}
-use Rattle.seek.specs.Callers.{absent-within}
-use Rattle.stock.specs.Putting.{put_faulty, put_none, put_large, put-more, new_none, new_full, new_row}
+use Rattle.keys.specs.Size.{limit}
+use Rattle.outcomes.specs.Stocking.{put_in}
+use Rattle.seek.specs.Answers.{stocked_as}
+use Rattle.seek.specs.Callers.{told_on, absent-within}
+use Rattle.seek.proofs.Changing.{refused_on}
+use Rattle.stock.proofs.Putting.{put_none, put_large, put-more, new_full, new_row}
 use Rattle.stock.proofs.put_in.Goals as goal
 
-pub returns-in-Faulty : goal.returns-in-Faulty
-returns-in-Faulty c = put_faulty _ _ _ _ _ _ c.in-Faulty.ensures
+pub returns-in_err-sought : goal.returns-in_err-sought
+returns-in_err-sought c =
+    told_on _ _ _ _ (put_in _ _ _) refl stocked_as _ c.in_err-sought.ensures c.from_residual.ensures.1
+
+pub returns-then-n-eq0 : goal.returns-then-n-eq0
+returns-then-n-eq0 c = put_none _ _ _ _ _ _ c.in_ok-sought.ensures (omega arith)
 
 -- to a row that is there
-pub returns-then-n-eq0 : goal.returns-then-n-eq0
-returns-then-n-eq0 c = put_none _ _ _ _ _ _ _ c.in-Here.ensures (omega arith)
+pub returns-in_err-quantity-in-Here : goal.returns-in_err-quantity-in-Here
+returns-in_err-quantity-in-Here c =
+    let large = rw c.in_err-quantity-in-Here.ensures.ok_part at c.checked_add.ensures in
+    refused_on 3 stocked_as _ _ _ _ c.in_err-quantity-in-Here.ensures.value
+    c.from_residual-in_err-quantity-in-Here.ensures.1
+    ∙ put_large _ _ _ _ _ (omega arith) (rw c.in-Here.is at c.in_ok-sought.ensures) (omega arith)
 
-pub returns-then-held-n : goal.returns-then-held-n
-returns-then-held-n c = put_large _ _ _ _ _ _ _ c.in-Here.ensures (omega arith) (omega arith)
-
-pub returns-else-held-n : goal.returns-else-held-n
-returns-else-held-n c =
+pub returns-in_ok-quantity-in-Here : goal.returns-in_ok-quantity-in-Here
+returns-in_ok-quantity-in-Here c =
     let bytes : Bytes c.args.table.now = λ i. search rules in
-    put-more _ _ _ _ _ _ _ c.in-Here.ensures bytes (omega arith) (omega arith) c.put.ensures
+    let sum = rw c.in_ok-quantity-in-Here.ensures.ok_part at c.checked_add.ensures in
+    put-more _ _ _ _ _ (omega arith) (rw c.in-Here.is at c.in_ok-sought.ensures) bytes (omega arith, sum.1) c.put.ensures
 
 -- to a ratio that has no row
-pub returns-then-n-eq0-2 : goal.returns-then-n-eq0-2
-returns-then-n-eq0-2 c = new_none _ _ _ _ _ _ _ _ c.in-Absent.ensures (omega arith)
-
 pub returns-then-used-table : goal.returns-then-used-table
 returns-then-used-table c =
-    new_full _ _ _ _ _ _ _ _ c.in-Absent.ensures (omega arith) (search rules) (omega arith)
+    new_full _ _ _ _ _ (omega arith) (search rules) (rw c.in-Absent.is at c.in_ok-sought.ensures) (omega arith)
 
 pub overflow_add-result : goal.overflow_add-result
 overflow_add-result c =
-    let within = absent-within _ _ _ _ _ _ _ c.in-Absent.ensures in
+    let within = absent-within _ _ _ _ (rw c.in-Absent.is at c.in_ok-sought.ensures) in
     record { fits = omega arith }
 
 pub returns-else-used-table : goal.returns-else-used-table
 returns-else-used-table c =
     let bytes : Bytes c.args.table.now = λ i. search rules in
-    new_row _ _ _ _ _ _ _ _ c.in-Absent.ensures (omega arith) (search rules) bytes (λ z. omega arith) c.insert.ensures
+    new_row _ _ _ _ _ (omega arith) (search rules) (rw c.in-Absent.is at c.in_ok-sought.ensures) bytes
+    (λ z. omega arith) c.insert.ensures
