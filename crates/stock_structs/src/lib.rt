@@ -2,11 +2,11 @@
 // all else is.
 #![tactic(auto)]
 
-pub mod answers;
+mod answers;
 
 // Where a call refuses, used is 0 too: the caller's own count stands.
 #[repr(C)]
-#[derive(Clone, Copy)]
+#[derive(Clone, Copy, Default)]
 pub struct Stocked {
     pub refusal: u32,
     pub quantity: u32,
@@ -15,7 +15,7 @@ pub struct Stocked {
 }
 
 #[repr(C)]
-#[derive(Clone, Copy)]
+#[derive(Clone, Copy, Default)]
 pub struct Found {
     pub refusal: u32,
     pub quantity: u32,
@@ -24,7 +24,7 @@ pub struct Found {
 
 // found: whether there is a row at or above the ratio.
 #[repr(C)]
-#[derive(Clone, Copy)]
+#[derive(Clone, Copy, Default)]
 pub struct Listed {
     pub refusal: u32,
     pub numerator: u32,
