@@ -1,90 +1,81 @@
 // A line for a call on a table: the case, and what the call answered.
-use crate::show;
 use std::io;
-use stock_structs::{Stocked, answers};
+use stock_structs::{Found, Listed, Stocked};
 
-// A case on a ratio, and how much memory and how many rows the call is lent.
-fn case(rt: &impl Print, call: &[u8], table: &[u8], used: usize, p: u32, q: u32) -> io::Result<()> {
-    show::number(rt, call, p as u64)?;
-    show::number(rt, b"/", q as u64)?;
-    show::number(rt, b" in ", table.len() as u64)?;
-    show::number(rt, b" bytes, used ", used as u64)
+// The ratio of a case, and how much memory and how many rows the call is lent.
+fn case(rt: &impl Print, memory: &[u8], used: usize, p: u32, q: u32) -> io::Result<()> {
+    print!(rt; "{p}/{q} in {} bytes, used {used}: ", memory.len())
 }
 
 // A row's index and its quantity, or the refusal's number.
 fn row(rt: &impl Print, refusal: u32, index: usize, quantity: u32) -> io::Result<()> {
     match refusal {
-        0 => {
-            show::number(rt, b": row ", index as u64)?;
-            show::number(rt, b", quantity ", quantity as u64)
+        0 => print!(rt; "row {index}, quantity {quantity}"),
+        _ => print!(rt; "refused {refusal}"),
+    }
+}
+
+// The memory of a table that calls change, and how many of its rows are used.
+#[derive(Drop)]
+pub struct Table<'a> {
+    pub memory: &'a mut [u8],
+    pub used: usize,
+}
+
+impl Table<'_> {
+    // What putting in or taking out gave. Where it refuses, as many rows are used as before.
+    fn stocked(&mut self, rt: &impl Print, answer: Stocked) -> io::Result<()> {
+        row(rt, answer.refusal, answer.row, answer.quantity)?;
+        if answer.refusal == 0 {
+            self.used = answer.used;
+            print!(rt; ", used {}", self.used)?;
         }
-        _ => show::number(rt, b": refused ", refusal as u64),
+        println!(rt)
     }
-}
 
-// What putting in or taking out gave; the rows that are used after it.
-fn stocked(rt: &impl Print, used: usize, a: Stocked) -> io::Result<usize> {
-    row(rt, a.refusal, a.row, a.quantity)?;
-    if a.refusal != 0 {
-        show::text(rt, b"\n")?;
-        return Ok(used);
+    // n of p/q put in.
+    pub fn put(&mut self, rt: &impl Print, p: u32, q: u32, n: u32) -> io::Result<()> {
+        print!(rt; "put {n} of ")?;
+        let used = self.used;
+        case(rt, self.memory, used, p, q)?;
+        let answer = stock::put_in(self.memory, used, p, q, n);
+        self.stocked(rt, answer.into())
     }
-    show::number(rt, b", used ", a.used as u64)?;
-    show::text(rt, b"\n")?;
-    Ok(a.used)
-}
 
-// n of p/q put in.
-pub fn put(
-    rt: &impl Print,
-    table: &mut [u8],
-    used: usize,
-    p: u32,
-    q: u32,
-    n: u32,
-) -> io::Result<usize> {
-    show::number(rt, b"put ", n as u64)?;
-    case(rt, b" of ", table, used, p, q)?;
-    stocked(
-        rt,
-        used,
-        answers::stocked(stock::put_in(table, used, p, q, n)),
-    )
-}
+    // n of p/q taken out.
+    pub fn take(&mut self, rt: &impl Print, p: u32, q: u32, n: u32) -> io::Result<()> {
+        print!(rt; "take {n} of ")?;
+        let used = self.used;
+        case(rt, self.memory, used, p, q)?;
+        let answer = draw::take_out(self.memory, used, p, q, n);
+        self.stocked(rt, answer.into())
+    }
 
-// n of p/q taken out.
-pub fn take(
-    rt: &impl Print,
-    table: &mut [u8],
-    used: usize,
-    p: u32,
-    q: u32,
-    n: u32,
-) -> io::Result<usize> {
-    show::number(rt, b"take ", n as u64)?;
-    case(rt, b" of ", table, used, p, q)?;
-    stocked(
-        rt,
-        used,
-        answers::taken(draw::take_out(table, used, p, q, n)),
-    )
+    // Every byte of its memory.
+    pub fn show(&self, rt: &impl Print) -> io::Result<()> {
+        print!(rt; "memory")?;
+        for byte in self.memory.iter() {
+            print!(rt; " {byte}")?;
+        }
+        println!(rt)
+    }
 }
 
 // The row of p/q.
-pub fn find(rt: &impl Print, table: &[u8], used: usize, p: u32, q: u32) -> io::Result<()> {
-    case(rt, b"find ", table, used, p, q)?;
-    let a = answers::found(lookup::find(table, used, p, q));
-    row(rt, a.refusal, a.row, a.quantity)?;
-    show::text(rt, b"\n")
+pub fn find(rt: &impl Print, memory: &[u8], used: usize, p: u32, q: u32) -> io::Result<()> {
+    print!(rt; "find ")?;
+    case(rt, memory, used, p, q)?;
+    let answer = Found::from(lookup::find(memory, used, p, q));
+    row(rt, answer.refusal, answer.row, answer.quantity)?;
+    println!(rt)
 }
 
 // The first row from p/q on.
-pub fn from(rt: &impl Print, table: &[u8], used: usize, p: u32, q: u32) -> io::Result<()> {
-    case(rt, b"from ", table, used, p, q)?;
-    let a = answers::listed(lookup::list_from(table, used, p, q));
-    row(rt, a.refusal, a.row, a.quantity)?;
-    show::number(rt, b", ratio ", a.numerator as u64)?;
-    show::number(rt, b"/", a.denominator as u64)?;
-    show::number(rt, b", found ", a.found as u64)?;
-    show::text(rt, b"\n")
+pub fn from(rt: &impl Print, memory: &[u8], used: usize, p: u32, q: u32) -> io::Result<()> {
+    print!(rt; "from ")?;
+    case(rt, memory, used, p, q)?;
+    let answer = Listed::from(lookup::list_from(memory, used, p, q));
+    row(rt, answer.refusal, answer.row, answer.quantity)?;
+    print!(rt; ", ratio {}/{}", answer.numerator, answer.denominator)?;
+    println!(rt; ", found {}", answer.found as u8)
 }

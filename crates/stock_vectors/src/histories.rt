@@ -1,30 +1,31 @@
 // Tables from their first row on.
-use crate::calls::{find, from, put, take};
-use crate::show;
+use crate::calls::{Table, find, from};
 use std::io;
 
 // Rows come, grow and go.
-pub fn counter(rt: &impl Print, table: &mut [u8]) -> io::Result<()> {
-    let mut used = put(rt, table, 0, 57, 31, 4)?;
-    used = put(rt, table, used, 26, 161, 10)?;
-    used = put(rt, table, used, 40, 60, 3)?;
-    used = put(rt, table, used, 20, 30, 2)?;
-    show::memory(rt, table)?;
-    used = take(rt, table, used, 26, 161, 10)?;
-    used = take(rt, table, used, 57, 31, 1)?;
-    take(rt, table, used, 57, 31, 4)?;
-    show::memory(rt, table)
+pub fn counter(rt: &impl Print, memory: &mut [u8]) -> io::Result<()> {
+    let mut table = Table { memory, used: 0 };
+    table.put(rt, 57, 31, 4)?;
+    table.put(rt, 26, 161, 10)?;
+    table.put(rt, 40, 60, 3)?;
+    table.put(rt, 20, 30, 2)?;
+    table.show(rt)?;
+    table.take(rt, 26, 161, 10)?;
+    table.take(rt, 57, 31, 1)?;
+    table.take(rt, 57, 31, 4)?;
+    table.show(rt)
 }
 
 // The lowest ratio and the highest, a full table, the largest quantity.
-pub fn limits(rt: &impl Print, table: &mut [u8]) -> io::Result<()> {
-    let mut used = put(rt, table, 0, 4294967295, 1, 1)?;
-    used = put(rt, table, used, 0, 7, 1)?;
-    used = put(rt, table, used, 1, 4294967295, 1)?;
-    used = put(rt, table, used, 2, 1, 1)?;
-    used = put(rt, table, used, 0, 1, 4294967294)?;
-    put(rt, table, used, 0, 1, 1)?;
-    show::memory(rt, table)
+pub fn limits(rt: &impl Print, memory: &mut [u8]) -> io::Result<()> {
+    let mut table = Table { memory, used: 0 };
+    table.put(rt, 4294967295, 1, 1)?;
+    table.put(rt, 0, 7, 1)?;
+    table.put(rt, 1, 4294967295, 1)?;
+    table.put(rt, 2, 1, 1)?;
+    table.put(rt, 0, 1, 4294967294)?;
+    table.put(rt, 0, 1, 1)?;
+    table.show(rt)
 }
 
 // Rows of 1/3 and 1/2, listed from ratios at, between and past them.

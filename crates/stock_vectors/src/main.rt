@@ -4,20 +4,16 @@
 
 mod calls;
 mod histories;
-mod refusals;
-mod show;
+mod refused;
 
 use std::io;
 
 fn main(rt: HostRuntime) -> io::Result<()> {
-    refusals::sizes(&rt)?;
-    refusals::rows(&rt)?;
-    refusals::looking(&rt)?;
-    let mut unused = [7; 24];
-    refusals::changing(&rt, &mut unused)?;
-    let mut counter = [7; 36];
-    histories::counter(&rt, &mut counter)?;
-    let mut full = [7; 36];
-    histories::limits(&rt, &mut full)?;
+    refused::sizes(&rt)?;
+    refused::rows(&rt)?;
+    refused::looking(&rt)?;
+    refused::changing(&rt, &mut [7; 24])?;
+    histories::counter(&rt, &mut [7; 36])?;
+    histories::limits(&rt, &mut [7; 36])?;
     histories::listing(&rt)
 }
