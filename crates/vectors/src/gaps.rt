@@ -1,113 +1,88 @@
 // The line on the distance between a key and what is kept of it when it is cut.
-ghost use Rattle.std.specs.Prelude.{◌≡◌, ◌*◌, ◌^◌, ◌<◌};
+ghost use Rattle.std.specs.Prelude.{◌≡◌, ◌*◌};
 
-use crate::buffers::FILL;
-use crate::show;
-use cut::Shortened;
-use read::ReadText;
-use std::io;
+use crate::buffers::{FILL, front};
+use crate::show::Text;
+use fractions::Fraction;
+use refusals::Refusal;
+use std::{fmt, io};
 
-// The product of two numbers of 32 bits.
-fn product(a: u64, b: u64) -> u64
-    requires { (a < 4294967296) × (b < 4294967296) }
+// Both sides of the bound, gap * 3^(n-1) < 2^(n-1) * qb, where a/b is what a cut to n characters kept of p/q, and gap
+// is pb - aq.
+#[derive(Clone, Copy)]
+struct Bound {
+    gap: u64,
+    threes: u64,
+    left: u64,
+    twos: u64,
+    qb: u64,
+    right: u64,
+}
+
+impl Bound {
+    // There is none where a/b is above p/q, or a number leaves 64 bits.
+    fn of(whole: Fraction, part: Fraction, n: usize) -> Option<Bound> {
+        let pb = product(whole.numerator, part.denominator);
+        let aq = product(part.numerator, whole.denominator);
+        let qb = product(whole.denominator, part.denominator);
+        let gap = pb.checked_sub(aq)?;
+        let exponent = u32::try_from(n.checked_sub(1)?).ok()?;
+        let threes = 3u64.checked_pow(exponent)?;
+        let twos = 2u64.checked_pow(exponent)?;
+        let left = gap.checked_mul(threes)?;
+        let right = twos.checked_mul(qb)?;
+        Some(Bound {
+            gap,
+            threes,
+            left,
+            twos,
+            qb,
+            right,
+        })
+    }
+}
+
+impl fmt::Display for Bound {
+    fn fmt<W: fmt::Write>(&self, f: &mut fmt::Formatter<W>) -> fmt::Result {
+        let Bound {
+            gap,
+            threes,
+            left,
+            twos,
+            qb,
+            right,
+        } = *self;
+        let stands = if left < right { "below" } else { "not below" };
+        write!(
+            f,
+            "{gap} times {threes} is {left}, {stands} {twos} times {qb}"
+        )
+    }
+}
+
+fn product(a: u32, b: u32) -> u64
     ensures { result ≡ a * b }
 {
-    a * b
+    u64::from(a) * u64::from(b)
 }
 
-// A small power of 2 or 3.
-fn power(base: u64, n: usize) -> u64
-    requires { (base < 4) × (n < 16) }
-    ensures value { result ≡ base ^ n }
-    ensures upper_bound { result < 4294967296 }
-{
-    let mut r = 1;
-    for _ in 0..n {
-        r = r * base;
-    }
-    r
-}
-
-// Both sides of the bound, gap * 3^m < 2^m * qb, where gap is pb - aq and m + 1 the width.
-fn sides(rt: &impl Print, gap: u64, qb: u64, m: usize) -> io::Result<()>
-    requires { (gap < 4294967296) × (qb < 4294967296) × (m < 16) }
-{
-    let threes = power(3, m);
-    let twos = power(2, m);
-    let left = product(gap, threes);
-    let right = product(twos, qb);
-    show::number(rt, gap)?;
-    show::text(rt, b" times ")?;
-    show::number(rt, threes)?;
-    show::text(rt, b" is ")?;
-    show::number(rt, left)?;
-    if left < right {
-        show::text(rt, b", below ")?;
-    } else {
-        show::text(rt, b", not below ")?;
-    }
-    show::number(rt, twos)?;
-    show::text(rt, b" times ")?;
-    show::number(rt, qb)?;
-    show::text(rt, b"\n")
-}
-
-// How far a/b, what a cut to n characters kept, is below p/q.
-fn gap(rt: &impl Print, p: u32, q: u32, a: u32, b: u32, n: usize) -> io::Result<()> {
-    let pb = product(p as u64, b as u64);
-    let aq = product(a as u64, q as u64);
-    let qb = product(q as u64, b as u64);
-    if pb < aq {
-        return show::text(rt, b"above\n");
-    }
-    if pb < 4294967296 {
-        if qb < 4294967296 {
-            if 0 < n {
-                if n < 17 {
-                    return sides(rt, pb - aq, qb, n - 1);
-                }
-            }
-        }
-    }
-    show::text(rt, b"out of range\n")
-}
-
-// The distance of p/q and the key that is kept.
-fn gap_to(rt: &impl Print, p: u32, q: u32, part: &[u8], n: usize) -> io::Result<()> {
-    match read::read_text(part) {
-        ReadText::Ratio {
-            numerator,
-            denominator,
-        } => gap(rt, p, q, numerator, denominator, n),
-        ReadText::Faulty(fault) => show::refused(rt, show::number_of(fault)),
-        ReadText::OutOfRange => show::refused(rt, 7),
-    }
-}
-
-// The distance of a key and the key that is kept.
-fn gap_of(rt: &impl Print, k: &[u8], part: &[u8], n: usize) -> io::Result<()> {
-    match read::read_text(k) {
-        ReadText::Ratio {
-            numerator,
-            denominator,
-        } => gap_to(rt, numerator, denominator, part, n),
-        ReadText::Faulty(fault) => show::refused(rt, show::number_of(fault)),
-        ReadText::OutOfRange => show::refused(rt, 7),
-    }
+// The values of a key and of what a cut to a width keeps of it.
+fn cut_apart(k: &[u8], width: usize) -> Result<(Fraction, Fraction), Refusal> {
+    let mut buffer = [FILL; 128];
+    let characters = cut::cut(k, width, &mut buffer)?;
+    let whole = read::read_text(k)?;
+    let part = read::read_text(front(&buffer, characters))?;
+    Ok((whole, part))
 }
 
 // The distance of a key and what is kept of it.
 pub fn distance_of(rt: &impl Print, k: &[u8], width: usize) -> io::Result<()> {
-    show::text(rt, b"distance of ")?;
-    show::text(rt, k)?;
-    show::text(rt, b" cut to ")?;
-    show::number(rt, width as u64)?;
-    show::text(rt, b": ")?;
-    let mut buffer = [FILL; 128];
-    match cut::cut(k, width, &mut buffer) {
-        Shortened::Key { characters } => gap_of(rt, k, show::front(&buffer, characters), width),
-        Shortened::Faulty(fault) => show::refused(rt, show::number_of(fault)),
-        Shortened::WrongWidth => show::refused(rt, 8),
-        Shortened::ShortBuffer => show::refused(rt, 2),
+    print!(rt; "distance of {} cut to {width}: ", Text(k))?;
+    match cut_apart(k, width) {
+        Ok((whole, part)) => match Bound::of(whole, part, width) {
+            Some(bound) => println!(rt; "{bound}"),
+            None => println!(rt; "none"),
+        },
+        Err(refusal) => println!(rt; "{refusal}"),
     }
 }

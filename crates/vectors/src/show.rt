@@ -1,91 +1,103 @@
-// Printing: bytes, numbers, hexadecimal, the front of a slice, and refusals.
-ghost use Rattle.std.specs.Prelude.{◌≡◌, ◌+◌, ◌<◌, ◌≤◌, take};
-ghost use Rattle.scan.specs.Judging.{number_of_fault};
+// How a line shows what it speaks of, and an answer.
+use fractions::Fraction;
+use refusals::Refusal;
+use scan::{Kind, Place};
+use std::cmp::Ordering;
+use std::{fmt, io};
 
-use scan::Fault;
-use std::io;
+// A text key, or what isn't one, character by character.
+#[derive(Clone, Copy)]
+pub struct Text<'a>(pub &'a [u8]);
 
-// Bytes as they are.
-pub fn text(rt: &impl Print, s: &[u8]) -> io::Result<()> {
-    rt.write_all(s)
-}
-
-// A number in decimal digits.
-pub fn number(rt: &impl Print, n: u64) -> io::Result<()> {
-    print!(rt; "{n}")
-}
-
-// A ratio.
-pub fn ratio(rt: &impl Print, p: u32, q: u32) -> io::Result<()> {
-    number(rt, p as u64)?;
-    text(rt, b"/")?;
-    number(rt, q as u64)
-}
-
-// A case on a key.
-pub fn case(rt: &impl Print, name: &[u8], k: &[u8]) -> io::Result<()> {
-    text(rt, name)?;
-    text(rt, k)?;
-    text(rt, b": ")
-}
-
-// A hexadecimal digit, in upper case.
-fn glyph(d: u8) -> u8
-    requires { d < 16 }
-    ensures { (d < 10 → result ≡ 48 + d) × (10 ≤ d → result ≡ 55 + d) }
-{
-    if d < 10 {
-        return 48 + d;
-    }
-    55 + d
-}
-
-// A byte as two hexadecimal digits.
-fn hex(rt: &impl Print, b: u8) -> io::Result<()> {
-    text(rt, &[glyph(b / 16), glyph(b % 16)])
-}
-
-// A column's bytes, one space between.
-pub fn column(rt: &impl Print, c: &[u8]) -> io::Result<()> {
-    for i in 0..c.len() {
-        if 0 < i {
-            text(rt, b" ")?;
+impl fmt::Display for Text<'_> {
+    fn fmt<W: fmt::Write>(&self, f: &mut fmt::Formatter<W>) -> fmt::Result {
+        for c in self.0 {
+            write!(f, "{}", *c as char)?;
         }
-        hex(rt, c[i])?;
-    }
-    Ok(())
-}
-
-// The first n bytes of s, or all where there are fewer.
-pub fn front(s: &[u8], n: usize) -> &[u8]
-    ensures { result.now ≡ take n s.now }
-{
-    if n < s.len() {
-        return &s[..n];
-    }
-    s
-}
-
-// The scope's number of a fault.
-pub fn number_of(fault: Fault) -> u64
-    ensures { result ≡ number_of_fault fault }
-{
-    match fault {
-        Fault::Empty => 3,
-        Fault::Long => 4,
-        Fault::Character => 5,
-        Fault::LastZero => 6,
+        Ok(())
     }
 }
 
-// A refusal by its number.
-pub fn refusal(rt: &impl Print, n: u64) -> io::Result<()> {
-    text(rt, b"refused ")?;
-    number(rt, n)
+// A column's bytes in hexadecimal, one space between.
+#[derive(Clone, Copy)]
+pub struct Column<'a>(pub &'a [u8]);
+
+impl fmt::Display for Column<'_> {
+    fn fmt<W: fmt::Write>(&self, f: &mut fmt::Formatter<W>) -> fmt::Result {
+        let mut gap = "";
+        for b in self.0 {
+            write!(f, "{gap}{b:02X}")?;
+            gap = " ";
+        }
+        Ok(())
+    }
 }
 
-// A refusal, and the end of the line.
-pub fn refused(rt: &impl Print, n: u64) -> io::Result<()> {
-    refusal(rt, n)?;
-    text(rt, b"\n")
+#[derive(Clone, Copy)]
+pub struct Ratio(pub Fraction);
+
+impl fmt::Display for Ratio {
+    fn fmt<W: fmt::Write>(&self, f: &mut fmt::Formatter<W>) -> fmt::Result {
+        let Ratio(
+            Fraction {
+                numerator,
+                denominator,
+            },
+        ) = *self;
+        write!(f, "{numerator}/{denominator}")
+    }
+}
+
+// How the first of two keys stands to the second.
+#[derive(Clone, Copy)]
+pub struct Standing(pub Ordering);
+
+impl fmt::Display for Standing {
+    fn fmt<W: fmt::Write>(&self, f: &mut fmt::Formatter<W>) -> fmt::Result {
+        f.write_str(match self.0 {
+            Ordering::Less => "before",
+            Ordering::Equal => "same",
+            Ordering::Greater => "after",
+        })
+    }
+}
+
+// A place in a key: the characters used, and the kind of word due there.
+#[derive(Clone, Copy)]
+pub struct At(pub Place);
+
+impl fmt::Display for At {
+    fn fmt<W: fmt::Write>(&self, f: &mut fmt::Formatter<W>) -> fmt::Result {
+        let At(Place { used, due }) = *self;
+        let due = match due {
+            Kind::Word => "word",
+            Kind::Turned => "turned",
+        };
+        write!(f, "{used} {due}")
+    }
+}
+
+// What a step met.
+#[derive(Clone, Copy)]
+pub struct Met(pub Result<Option<u32>, Refusal>);
+
+impl fmt::Display for Met {
+    fn fmt<W: fmt::Write>(&self, f: &mut fmt::Formatter<W>) -> fmt::Result {
+        match self.0 {
+            Ok(Some(quotient)) => write!(f, "{quotient}"),
+            Ok(None) => f.write_str("end"),
+            Err(refusal) => write!(f, "{refusal}"),
+        }
+    }
+}
+
+// What a call gave, or its refusal, and the end of the line.
+pub fn answer<T: fmt::Display + Drop>(
+    rt: &impl Print,
+    answer: Result<T, Refusal>,
+) -> io::Result<()> {
+    match answer {
+        Ok(given) => println!(rt; "{given}"),
+        Err(refusal) => println!(rt; "{refusal}"),
+    }
 }
