@@ -1,6 +1,7 @@
 -- One turn of the writer's loop: a turned word and a word more, and the same string in all.
 use Rattle.std.specs.Prelude.{◌≡◌, refl, true, not, List, [], ◌∷◌, ◌++◌, ℕ, ◌+◌, ◌*◌, ◌-◌, ◌/◌, ◌%◌, ◌≤◌, ◌<◌, length}
-use Rattle.std.proofs.Common.{sym, ◌∙◌, ap, add-zero, div-add-mod', mod-lt, arith, append_assoc, append-nil, length-append}
+use Rattle.std.proofs.Common.{sym, ◌∙◌, ap, add-zero, div-add-mod', mod-lt, arith}
+use Rattle.std.proofs.Common.{append_assoc, append-nil, length-append}
 use Rattle.std.proofs.lemmas.List.{map-append, length-map}
 use Rattle.bits.specs.Strings.{Bits, turn}
 use Rattle.bits.proofs.Order.{turn-turn}
@@ -65,17 +66,17 @@ module _ {d r : ℕ} {line : Bits} {count : ℕ} (some : 1 ≤ r) (here : Room d
   pub room-word : {next : Bits} → next ≡ line ++ turn (word_of a) → length next + length (word_of b) ≤ 96
   room-word e = omega (arith, words-length, here.room, ap length e, length-append line (turn (word_of a)))
 
-  pub going-again : {d₀ r₀ : ℕ} {line₀ : Bits} {count₀ : ℕ} {next last : Bits} → Going d₀ r₀ line₀ count₀ d r line count
-      → next ≡ line ++ turn (word_of a) → last ≡ next ++ word_of b
+  pub going-again : {d₀ r₀ : ℕ} {line₀ : Bits} {count₀ : ℕ} {next last : Bits}
+      → Going d₀ r₀ line₀ count₀ d r line count → next ≡ line ++ turn (word_of a) → last ≡ next ++ word_of b
       → Going d₀ r₀ line₀ count₀ t (r % t) last (count + 2)
   going-again {next} {last} g e f =
-      let same : last ++ words_to_come t (r % t) ≡ line ++ words_to_come d r =
-      rw (f, e, words) (rw (append_assoc, append_assoc) refl) in
       let rest = words_to_come t (r % t) in
+      let same : last ++ rest ≡ line ++ words_to_come d r =
+      rw (f, e, words) (rw (append_assoc, append_assoc) refl) in
       record {
         here = record {
           turned = left-below;
-          room = omega (arith, here.room, ap length same, length-append last rest, length-append line (words_to_come d r));
+          room = rw (← length-append, same, length-append) here.room;
           few = omega (arith, ap length come, here.few);
         };
         string = same ∙ g.string;

@@ -27,7 +27,7 @@ pub zero-told : (p q : ℕ) {e : Refusal} → Err e ≡ spelling p q → (size :
     → refuses (number_of e) 2 m ≡ called (zero_denominator q ∷ short_buffer size m ∷ []) (counts p q) m after
 zero-told p q h size m after = rw (zero-spells p q h) (told-zero p q _ _ h)
 
-module _ (p q : ℕ) (small : p < 2 ^ 32) (low : q < 2 ^ 32) (s : Spelled) (e : Ok s ≡ spelling p q) where
+module _ {p q : ℕ} (small : p < 2 ^ 32) (low : q < 2 ^ 32) {s : Spelled} (e : Ok s ≡ spelling p q) where
   abbrev key : Bits
   key = key_of words1983 p q
 
@@ -42,25 +42,25 @@ module _ (p q : ℕ) (small : p < 2 ^ 32) (low : q < 2 ^ 32) (s : Spelled) (e : 
   answer r = answered 2 (λ c. c ∷ s.quotients ∷ []) r
 
   -- t was put out into m, which wants size bytes
-  told : (size : ℕ) (t m : List ℕ) (r : Result ℕ Refusal) (l : List ℕ)
+  told : (size : ℕ) (t m : List ℕ) {r : Result ℕ Refusal} {l : List ℕ}
       → Put (ltb (length m) size) m (in_front t m) (length key) r l
       → leaves (answer r) l ≡ called (zero_denominator q ∷ short_buffer size m ∷ []) (counts p q) m (in_front t m)
-  told size t m r l put =
+  told size t m {r} {l} put =
       put-called size 2 (λ c. c ∷ s.quotients ∷ []) m (in_front t m) (length key) r l refl put
       ∙ (λ i. called (short_buffer size m ∷ []) (length key ∷ spells.quotients i ∷ []) m (in_front t m))
       ∙ told-key p q _ _ e
 
-  pub text-told : (m : List ℕ) (r : Result ℕ Refusal) (l : List ℕ)
+  pub text-told : (m : List ℕ) {r : Result ℕ Refusal} {l : List ℕ}
       → ◌≡◌ {A = Result ℕ Refusal × List ℕ} (r, l) (text_put (bits_of_block s.block) m)
       → leaves (answer r) l ≡ write_text p q m
   unfolding text_put write_text
-  text-told m r l put = told 96 (text_of key) m r l (rw key-held at put)
+  text-told m put = told 96 (text_of key) m (rw key-held at put)
 
-  pub column-told : (m : List ℕ) (r : Result ℕ Refusal) (l : List ℕ)
+  pub column-told : (m : List ℕ) {r : Result ℕ Refusal} {l : List ℕ}
       → ◌≡◌ {A = Result ℕ Refusal × List ℕ} (r, l) (column_put (bits_of_block s.block) m)
       → leaves (answer r) l ≡ write_column p q m
   unfolding column_put write_column
-  column-told m r l put =
+  column-told m put =
       let bytes = bytes-same 12 (bits_of_block s.block) key (block-holds spells small low) in
-      told 12 (column_of key) m r l
+      told 12 (column_of key) m
       (put ∙ λ i. cond (ltb (length m) 12) (Err WrongSize, m) (Ok (length (key-held i)), in_front (bytes i) m))

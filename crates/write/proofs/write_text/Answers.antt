@@ -1,5 +1,4 @@
 -- Each way is what spelling and putting out gave, by `proofs/Replies.antt`.
-use Rattle.std.proofs.Common.{rules}
 use Rattle.std.proofs.lemmas.Result.{err_from_is_err_and}
 use Rattle.outcomes.specs.Writing.{write_text}
 use Rattle.write.proofs.Replies.{zero-told, text-told}
@@ -14,7 +13,7 @@ returns-in_err-key c =
 pub returns-in_err-characters : goal.returns-in_err-characters
 returns-in_err-characters c =
     let p = err_from_is_err_and c.from_residual-in_err-characters.result c.from_residual-in_err-characters.ensures.1 in
-    rw (p.1, p.2) (text-told _ _ (search rules) (search rules) _ c.in_ok-key.ensures _ _ _ c.in_err-characters.ensures)
+    rw (p.1, p.2) (text-told c.ranges.p.fits c.ranges.q.fits c.in_ok-key.ensures _ c.in_err-characters.ensures)
 
 pub returns : goal.returns
-returns c = text-told _ _ (search rules) (search rules) _ c.in_ok-key.ensures _ _ _ c.in_ok-characters.ensures
+returns c = text-told c.ranges.p.fits c.ranges.q.fits c.in_ok-key.ensures _ c.in_ok-characters.ensures
