@@ -1,90 +1,102 @@
-// What writing and reading answer, as structs, and a fault's number. Where a call refuses, counts and values are zero.
+// The calls' results as structs. Where a call refuses, counts and values are zero.
 ghost use Rattle.std.specs.Prelude.{◌≡◌};
-ghost use Rattle.outcomes.specs.Outcomes.{refused};
-ghost use Rattle.scan.specs.Judging.{number_of_fault};
+ghost use Rattle.refusals.specs.Answers.{answered, terms_as, one_as, none_as};
 ghost use Rattle.write.specs.Answers.{written_as};
-ghost use Rattle.read.specs.Answers.{text_read_as, column_read_as};
-ghost use Rattle.lcf.specs.Structs.{of_written, of_ratio};
+ghost use Rattle.compare.specs.Answers.{standing_as};
+ghost use Rattle.lcf.specs.Structs.{of_written, of_ratio, of_text, of_column, of_standing};
 
-use crate::{Ratio, Written};
-use scan::Fault;
+use crate::{Column, Ratio, Standing, Text, Written};
+use fractions::Fraction;
+use refusals::Refusal;
+use std::cmp::Ordering;
 
-pub fn number(fault: Fault) -> u32
-    ensures { result ≡ number_of_fault fault }
-{
-    match fault {
-        Fault::Empty => 3,
-        Fault::Long => 4,
-        Fault::Character => 5,
-        Fault::LastZero => 6,
+impl From<Result<write::Written, Refusal>> for Written {
+    ghost from_gives = { λ answer r. of_written r ≡ answered 2 written_as answer };
+
+    fn from(answer: Result<write::Written, Refusal>) -> Written {
+        match answer {
+            Ok(written) => Written {
+                refusal: 0,
+                quotients: written.quotients,
+                characters: written.characters,
+            },
+            Err(refusal) => Written {
+                refusal: refusal.number(),
+                ..Written::default()
+            },
+        }
     }
 }
 
-pub fn written(answer: write::Written) -> Written
-    ensures { of_written result ≡ written_as answer }
-{
-    match answer {
-        write::Written::Key {
-            characters,
-            quotients,
-        } => Written {
-            refusal: 0,
-            quotients,
-            characters,
-        },
-        write::Written::ZeroDenominator => Written {
-            refusal: 1,
-            quotients: 0,
-            characters: 0,
-        },
-        write::Written::ShortBuffer => Written {
-            refusal: 2,
-            quotients: 0,
-            characters: 0,
-        },
+impl From<Result<Fraction, Refusal>> for Ratio {
+    ghost from_gives = { λ answer r. of_ratio r ≡ answered 2 terms_as answer };
+
+    fn from(answer: Result<Fraction, Refusal>) -> Ratio {
+        match answer {
+            Ok(ratio) => Ratio {
+                refusal: 0,
+                numerator: ratio.numerator,
+                denominator: ratio.denominator,
+            },
+            Err(refusal) => Ratio {
+                refusal: refusal.number(),
+                ..Ratio::default()
+            },
+        }
     }
 }
 
-fn no_ratio(refusal: u32) -> Ratio
-    ensures { of_ratio result ≡ refused refusal 2 }
-{
-    Ratio {
-        refusal,
-        numerator: 0,
-        denominator: 0,
+impl From<Result<usize, Refusal>> for Text {
+    ghost from_gives = { λ answer r. of_text r ≡ answered 1 one_as answer };
+
+    fn from(answer: Result<usize, Refusal>) -> Text {
+        match answer {
+            Ok(characters) => Text {
+                refusal: 0,
+                characters,
+            },
+            Err(refusal) => Text {
+                refusal: refusal.number(),
+                ..Text::default()
+            },
+        }
     }
 }
 
-pub fn text_read(answer: read::ReadText) -> Ratio
-    ensures { of_ratio result ≡ text_read_as answer }
-{
-    match answer {
-        read::ReadText::Ratio {
-            numerator,
-            denominator,
-        } => Ratio {
-            refusal: 0,
-            numerator,
-            denominator,
-        },
-        read::ReadText::Faulty(fault) => no_ratio(number(fault)),
-        read::ReadText::OutOfRange => no_ratio(7),
+impl From<Result<(), Refusal>> for Column {
+    ghost from_gives = { λ answer r. of_column r ≡ answered 0 none_as answer };
+
+    fn from(answer: Result<(), Refusal>) -> Column {
+        match answer {
+            Ok(()) => Column::default(),
+            Err(refusal) => Column {
+                refusal: refusal.number(),
+            },
+        }
     }
 }
 
-pub fn column_read(answer: read::ReadColumn) -> Ratio
-    ensures { of_ratio result ≡ column_read_as answer }
-{
-    match answer {
-        read::ReadColumn::Ratio {
-            numerator,
-            denominator,
-        } => Ratio {
-            refusal: 0,
-            numerator,
-            denominator,
-        },
-        read::ReadColumn::WrongColumn => no_ratio(9),
-        read::ReadColumn::OutOfRange => no_ratio(7),
+impl From<Result<Ordering, Refusal>> for Standing {
+    ghost from_gives = { λ answer r. of_standing r ≡ answered 1 standing_as answer };
+
+    fn from(answer: Result<Ordering, Refusal>) -> Standing {
+        match answer {
+            Ok(Ordering::Less) => Standing {
+                refusal: 0,
+                standing: 1,
+            },
+            Ok(Ordering::Equal) => Standing {
+                refusal: 0,
+                standing: 2,
+            },
+            Ok(Ordering::Greater) => Standing {
+                refusal: 0,
+                standing: 3,
+            },
+            Err(refusal) => Standing {
+                refusal: refusal.number(),
+                ..Standing::default()
+            },
+        }
     }
 }

@@ -13,13 +13,16 @@ ghost use Rattle.outcomes.specs.Stepping.{start_text, step_text};
 ghost use Rattle.lcf.specs.Structs.{of_written, of_ratio, of_text, of_column, of_standing, of_started, of_stepped};
 ghost use Rattle.lcf.specs.Structs.{earlier_in};
 
+use std::cmp::Ordering;
+
 mod answers;
-mod key_calls;
 mod places;
 pub mod stocking;
 
+// C's structs. C gets no enum from an export, so why a call refused is its number, 0 where it didn't, and all else is
+// zero then. The header and the programs built with it name these fields.
 #[repr(C)]
-#[derive(Clone, Copy)]
+#[derive(Clone, Copy, Default)]
 pub struct Written {
     pub refusal: u32,
     pub quotients: u32,
@@ -27,7 +30,7 @@ pub struct Written {
 }
 
 #[repr(C)]
-#[derive(Clone, Copy)]
+#[derive(Clone, Copy, Default)]
 pub struct Ratio {
     pub refusal: u32,
     pub numerator: u32,
@@ -35,35 +38,35 @@ pub struct Ratio {
 }
 
 #[repr(C)]
-#[derive(Clone, Copy)]
+#[derive(Clone, Copy, Default)]
 pub struct Text {
     pub refusal: u32,
     pub characters: usize,
 }
 
 #[repr(C)]
-#[derive(Clone, Copy)]
+#[derive(Clone, Copy, Default)]
 pub struct Column {
     pub refusal: u32,
 }
 
 // 1 before, 2 same, 3 after.
 #[repr(C)]
-#[derive(Clone, Copy)]
+#[derive(Clone, Copy, Default)]
 pub struct Standing {
     pub refusal: u32,
     pub standing: u32,
 }
 
 #[repr(C)]
-#[derive(Clone, Copy)]
+#[derive(Clone, Copy, Default)]
 pub struct Place {
     pub used: usize,
     pub turned: bool,
 }
 
 #[repr(C)]
-#[derive(Clone, Copy)]
+#[derive(Clone, Copy, Default)]
 pub struct Started {
     pub refusal: u32,
     pub place: Place,
@@ -71,7 +74,7 @@ pub struct Started {
 
 // found: whether there is a quotient; there is none at the end.
 #[repr(C)]
-#[derive(Clone, Copy)]
+#[derive(Clone, Copy, Default)]
 pub struct Stepped {
     pub refusal: u32,
     pub quotient: u32,
@@ -82,68 +85,70 @@ pub struct Stepped {
 pub fn lcf_write_text(numerator: u32, denominator: u32, out: &mut [u8]) -> Written
     ensures { leaves (of_written result) out.new ≡ write_text numerator denominator out.old }
 {
-    answers::written(write::write_text(numerator, denominator, out))
+    write::write_text(numerator, denominator, out).into()
 }
 
 pub fn lcf_write_column(numerator: u32, denominator: u32, out: &mut [u8]) -> Written
     ensures { leaves (of_written result) out.new ≡ write_column numerator denominator out.old }
 {
-    answers::written(write::write_column(numerator, denominator, out))
+    write::write_column(numerator, denominator, out).into()
 }
 
 pub fn lcf_read_text(key: &[u8]) -> Ratio
     ensures { leaves (of_ratio result) [] ≡ read_text key.now }
 {
-    answers::text_read(read::read_text(key))
+    read::read_text(key).into()
 }
 
 pub fn lcf_read_column(column: &[u8]) -> Ratio
     ensures { leaves (of_ratio result) [] ≡ read_column column.now }
 {
-    answers::column_read(read::read_column(column))
+    read::read_column(column).into()
 }
 
 pub fn lcf_column_to_text(column: &[u8], out: &mut [u8]) -> Text
     ensures { leaves (of_text result) out.new ≡ column_to_text column.now out.old }
 {
-    key_calls::unpacked(pack::column_to_text(column, out))
+    pack::column_to_text(column, out).into()
 }
 
 pub fn lcf_text_to_column(key: &[u8], out: &mut [u8]) -> Column
     ensures { leaves (of_column result) out.new ≡ text_to_column key.now out.old }
 {
-    key_calls::packed(pack::text_to_column(key, out))
+    pack::text_to_column(key, out).into()
 }
 
 pub fn lcf_compare(first: &[u8], second: &[u8]) -> Standing
     ensures { leaves (of_standing result) [] ≡ compare_text first.now second.now }
 {
-    key_calls::compared(compare::compare(first, second))
+    compare::compare(first, second).into()
 }
 
 // 1 for the first key, 2 for the second, 0 where comparing refuses: which of the two `compare::earlier` hands back.
 pub fn lcf_earlier(first: &[u8], second: &[u8]) -> u32
     ensures { result ≡ earlier_in (compare_text first.now second.now) }
 {
-    key_calls::earlier(lcf_compare(first, second))
+    match compare::compare(first, second) {
+        Ok(Ordering::Greater) => 2,
+        Ok(_) => 1,
+        Err(_) => 0,
+    }
 }
 
 pub fn lcf_cut(key: &[u8], width: usize, out: &mut [u8]) -> Text
     ensures { leaves (of_text result) out.new ≡ cut_text key.now width out.old }
 {
-    key_calls::shortened(cut::cut(key, width, out))
+    cut::cut(key, width, out).into()
 }
 
 pub fn lcf_start(key: &[u8]) -> Started
     ensures { leaves (of_started result) [] ≡ start_text key.now }
 {
-    places::started(step::start(key))
+    step::start(key).into()
 }
 
 pub fn lcf_step(key: &[u8], place: Place) -> Stepped
     ensures { of_stepped result ≡ step_text key.now place.used place.turned }
 {
-    let used = place.used;
-    let turned = place.turned;
-    places::stepped(step::step(key, places::place_at(used, turned)))
+    step::step(key, place.into()).into()
 }

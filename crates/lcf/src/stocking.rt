@@ -5,7 +5,7 @@ ghost use Rattle.outcomes.specs.Stocking.{stock_call, put_in, take_out, find, li
 ghost use Rattle.tables.specs.Layouts.{stock_rows};
 ghost use Rattle.stock_structs.specs.Structs.{of_stocked, of_found, of_listed};
 
-use stock_structs::{Found, Listed, Stocked, answers};
+use stock_structs::{Found, Listed, Stocked};
 
 pub fn lcf_stock_put(
     table: &mut [u8],
@@ -17,7 +17,7 @@ pub fn lcf_stock_put(
     ensures { leaves (of_stocked result) table.new
         ≡ stock_call stock_rows (put_in numerator denominator quantity) used table.old }
 {
-    answers::stocked(stock::put_in(table, used, numerator, denominator, quantity))
+    stock::put_in(table, used, numerator, denominator, quantity).into()
 }
 
 pub fn lcf_stock_take(
@@ -30,19 +30,19 @@ pub fn lcf_stock_take(
     ensures { leaves (of_stocked result) table.new
         ≡ stock_call stock_rows (take_out numerator denominator quantity) used table.old }
 {
-    answers::taken(draw::take_out(table, used, numerator, denominator, quantity))
+    draw::take_out(table, used, numerator, denominator, quantity).into()
 }
 
 pub fn lcf_stock_find(table: &[u8], used: usize, numerator: u32, denominator: u32) -> Found
     ensures { leaves (of_found result) table.now
         ≡ stock_call stock_rows (find numerator denominator) used table.now }
 {
-    answers::found(lookup::find(table, used, numerator, denominator))
+    lookup::find(table, used, numerator, denominator).into()
 }
 
 pub fn lcf_stock_from(table: &[u8], used: usize, numerator: u32, denominator: u32) -> Listed
     ensures { leaves (of_listed result) table.now
         ≡ stock_call stock_rows (list_from numerator denominator) used table.now }
 {
-    answers::listed(lookup::list_from(table, used, numerator, denominator))
+    lookup::list_from(table, used, numerator, denominator).into()
 }
