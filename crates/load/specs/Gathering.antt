@@ -1,7 +1,7 @@
 -- A text's bits gathered into a machine word from its characters, and the parts of a text as parts of its string.
 use Rattle.std.specs.Prelude.{◌≡◌, refl, Bool, true, false, List, [], ◌∷◌, ℕ, zero, suc, ◌+◌, ◌*◌, ◌-◌, ◌%◌, ◌/◌, ◌^◌, ◌≤◌, ◌<◌, eqb, length, get_or, take, drop}
-use Rattle.std.proofs.Common.{sym, ap, ◌∙◌, add-one, arith, pow_mono, take-suc, take-add, take_all, length-take-le}
-use Rattle.std.proofs.lemmas.List.{map-append, length-map}
+use Rattle.std.proofs.Common.{sym, ap, ◌∙◌, add-one, arith, pow_mono, take-suc, take-add, take_all, length-take-le, length-drop}
+use Rattle.std.proofs.lemmas.List.{map-append, length-map, get_or-drop}
 use mir.Val.{bool_byte}
 use Rattle.bits.specs.Strings.{Bits}
 use Rattle.bits.proofs.Pieces.{drop-map}
@@ -68,6 +68,17 @@ module _ (k : List ℕ) {v : ℕ} (i : ℕ) (g : Gathered k v i) where
       let whole : v ≡ number_of (bits_of_text k) = g ∙ rw (take_all i k (omega arith)) in
       let size : i ≡ length (bits_of_text k) = rw length-map e in
       rw (whole, size) (raised (bits_of_text k) (omega arith))
+
+-- what is lent behind the first p characters
+module _ (k : List ℕ) (p : ℕ) where
+  abbrev pub behind : List ℕ
+  behind = take (length k - p) (drop p k)
+
+  pub behind-size : length behind ≡ length k - p
+  behind-size = rw lent_part (length-drop p k)
+
+  pub behind-at : (i : ℕ) → get_or behind i 0 ≡ get_or k (p + i) 0
+  behind-at i = rw (lent_part, get_or-drop)
 
 pub short_loaded : (k : List ℕ) {x : ℕ} → length k ≤ 64 → x ≡ top_word k
     → record { high = x; low = 0 } ≡ block_of (bits_of_text k)

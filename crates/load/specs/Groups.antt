@@ -1,32 +1,17 @@
 -- Eight characters in one machine word, the first in its lowest byte: read from a text, judged, and gathered.
-use Rattle.std.specs.Prelude.{◌≡◌, refl, true, List, [], ◌∷◌, ℕ, zero, suc, ◌+◌, ◌-◌, ◌*◌, ◌/◌, ◌%◌, ◌^◌, ◌≤◌, ◌<◌, eqb, length, take, drop}
-use Rattle.std.specs.Int.{w64, from_le_bytes}
-use Rattle.std.proofs.Common.{◌∙◌, ap, arith, eqb-true, length-drop, length-take-le}
+use Rattle.std.specs.Prelude.{◌≡◌, refl, true, ◌∷◌, ℕ, zero, suc, ◌+◌, ◌-◌, ◌*◌, ◌/◌, ◌%◌, ◌^◌, ◌<◌, eqb, length}
+use Rattle.std.proofs.Common.{◌∙◌, ap, arith, eqb-true}
 use Rattle.std.proofs.Math.Decide.{dec_lt}
 use Rattle.std.specs.Int.Bits.{bit_and}
-use Rattle.std.proofs.lemmas.Nat.{and_le_l, le_bytes_8}
-use Rattle.std.proofs.lemmas.List.{length-map, get_or-drop}
+use Rattle.std.proofs.lemmas.Nat.{and_le_l}
+use Rattle.std.proofs.lemmas.List.{length-map}
 use Rattle.bits.specs.Binary.{number_of, digits_in}
 use Rattle.bits.proofs.Numbers.{number-lt}
 use Rattle.bits.proofs.Pieces.{digits-of-number}
-use Rattle.bits.specs.Texts.{char_of, text_of, bits_of_text, Bytes}
+use Rattle.bits.specs.Texts.{char_of, text_of, bits_of_text}
 use Rattle.blocks.specs.Bytewise.{low_bytes, ones, low_bits, table}
-use Rattle.blocks.proofs.Bytewise.{length_low, and_ones, eight-bytes, table-at}
+use Rattle.blocks.proofs.Bytewise.{length_low, and_ones, table-at}
 use Rattle.load.specs.Passing.{Plain}
-
-bytes-take : (n : ℕ) (k : List ℕ) → Bytes k → Bytes (take n k)
-bytes-take zero k small i = omega arith
-bytes-take (suc n) [] small i = omega arith
-bytes-take (suc n) (a ∷ k) small zero = small 0
-bytes-take (suc n) (a ∷ k) small (suc i) = bytes-take n k (λ j. small (suc j)) i
-
--- eight bytes that were read from a place on are those of their number
-pub eight-read : (k : List ℕ) (at : ℕ) {w : ℕ} → at + 8 ≤ length k → Bytes k → w ≡ from_le_bytes w64 (take 8 (drop at k))
-    → low_bytes 8 w ≡ take 8 (drop at k)
-eight-read k at {w} h small e =
-    let size : length (take 8 (drop at k)) ≡ 8 = length-take-le 8 (drop at k) (rw length-drop (omega arith)) in
-    let behind : Bytes (drop at k) = λ i. rw get_or-drop (small (at + i)) in
-    eight-bytes w ∙ le_bytes_8 (take 8 (drop at k)) w size (bytes-take 8 (drop at k) behind) e
 
 plain-character : (c : ℕ) → c ≡ 48 + c % 2 → char_of (eqb c 49) ≡ c
 plain-character c e = by_size (dec_lt c 49)

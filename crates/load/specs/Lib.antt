@@ -1,4 +1,5 @@
 pub mod Loading
+pub mod Chunks
 pub mod Passing
 pub mod Groups
 pub mod Gathering

@@ -14,28 +14,21 @@ pub struct Front {
     pub passed: usize,
 }
 
-// The group from a place on.
-fn group(k: &[u8], at: usize) -> u64
-    requires { at + 8 ≤ length k.now }
-    ensures { low_bytes 8 result ≡ take 8 (drop at k.now) }
-{
-    u64::from_le_bytes(k[at..at + 8].try_into().unwrap())
-}
-
 // Whether each character is 0 or 1, which differ in their lowest bit only.
-fn is_plain(w: u64) -> bool
-    ensures { result ≡ true → Plain (low_bytes 8 w) }
+fn is_plain(group: &[u8; 8]) -> bool
+    ensures { result ≡ true → Plain group.now }
 {
+    let w = u64::from_le_bytes(*group);
     w - (w & 0x0101_0101_0101_0101) == 0x3030_3030_3030_3030
 }
 
 // The bits of eight such characters, the first one's on top. The first four go sixteenfold onto the last four, so that
 // four bytes hold two bits each; the product adds these up in its fourth byte, each doubled once more than the next.
-fn bits_in(w: u64) -> u64
-    ensures value { Plain (low_bytes 8 w) → result ≡ number_of (bits_of_text (low_bytes 8 w)) }
+fn bits_in(group: &[u8; 8]) -> u64
+    ensures value { Plain group.now → result ≡ number_of (bits_of_text group.now) }
     ensures upper_bound { result < 256 }
 {
-    let low = w & 0x0101_0101_0101_0101;
+    let low = u64::from_le_bytes(*group) & 0x0101_0101_0101_0101;
     (((low % 4294967296) * 16 + low / 4294967296) * 0x0804_0201 >> 24) % 256
 }
 
@@ -44,19 +37,11 @@ fn bits_in(w: u64) -> u64
 pub fn are_plain(k: &[u8]) -> bool
     ensures { result ≡ true → Passed k.now (length k.now) }
 {
-    if k.len() < 8 {
-        return false;
+    let groups = k.as_chunks::<8>().0;
+    match k.last_chunk() {
+        Some(last) => is_plain(last) && groups.iter().all(is_plain),
+        None => false,
     }
-    let last = k.len() - 8;
-    let mut i = 0;
-    while i < last {
-        if is_plain(group(k, i)) {
-            i += 8;
-        } else {
-            return false;
-        }
-    }
-    is_plain(group(k, last))
 }
 
 // The bits of whole groups, up to the first that has another character than 0 and 1.
@@ -64,34 +49,24 @@ pub fn gather(k: &[u8]) -> Front
     requires { length k.now ≤ 64 }
     ensures { (result.passed ≤ length k.now) × Gathered k.now result.bits result.passed }
 {
-    let mut v: u64 = 0;
-    let mut i = 0;
-    while i + 8 <= k.len() {
-        let w = group(k, i);
-        if is_plain(w) {
-            v = v * 256 + bits_in(w);
-            i += 8;
-        } else {
-            return Front { bits: v, passed: i };
+    let mut bits: u64 = 0;
+    let mut passed = 0;
+    for group in k.as_chunks::<8>().0 {
+        if !is_plain(group) {
+            break;
         }
+        bits = (bits << 8) + bits_in(group);
+        passed += 8;
     }
-    Front { bits: v, passed: i }
+    Front { bits, passed }
 }
 
 // How many characters at the front are found to be the same in both texts, group by group.
 pub fn skip_same(j: &[u8], k: &[u8]) -> usize
-    ensures { Shared j.now k.now result }
+    ensures shared { Shared j.now k.now result }
+    ensures within { (result ≤ length j.now) × (result ≤ length k.now) }
 {
-    let mut i = 0;
-    while i + 8 <= j.len() {
-        let next = i + 8;
-        if k.len() < next {
-            return i;
-        }
-        if group(j, i) != group(k, i) {
-            return i;
-        }
-        i = next;
-    }
-    i
+    let groups = j.as_chunks::<8>().0.iter().zip(k.as_chunks::<8>().0);
+    let same = groups.take_while(|(a, b)| u64::from_le_bytes(**a) == u64::from_le_bytes(**b));
+    8 * same.count()
 }

@@ -34,13 +34,11 @@ fn gathered(k: &[u8]) -> u64
     ensures { result ≡ top_word k.now }
 {
     let front = eights::gather(k);
-    let mut v = front.bits;
-    let mut i = front.passed;
-    while i < k.len() {
-        v = 2 * v + (k[i] == 49) as u64;
-        i += 1;
+    let mut bits = front.bits;
+    for &c in &k[front.passed..] {
+        bits = 2 * bits + (c == b'1') as u64;
     }
-    v << ((64 - i) % 64)
+    bits << ((64 - k.len()) % 64)
 }
 
 // The index of the first character that is neither 0 nor 1, or the length.
@@ -82,15 +80,7 @@ pub fn load_text(k: &[u8]) -> Block
 pub fn same_front(j: &[u8], k: &[u8]) -> usize
     ensures { result ≡ shared_length j.now k.now }
 {
-    let mut i = eights::skip_same(j, k);
-    while i < j.len() {
-        if k.len() <= i {
-            return i;
-        }
-        if j[i] != k[i] {
-            return i;
-        }
-        i += 1;
-    }
-    i
+    let same = eights::skip_same(j, k);
+    let rest = j[same..].iter().zip(&k[same..]);
+    same + rest.take_while(|(a, b)| a == b).count()
 }

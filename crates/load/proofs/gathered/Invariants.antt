@@ -1,10 +1,7 @@
--- v is the number of the characters passed. The measure is what is left of the text.
-use Rattle.std.proofs.Common.{◌-◌, ◌≤◌, length}
+-- The bits are the number of the characters passed.
+use Rattle.std.proofs.Common.{◌+◌, ◌-◌, length}
 use Rattle.load.specs.Gathering.{Gathered}
 use Rattle.load.proofs.gathered.Given as goal
 
-abbrev pub invariant-loop-i : goal.invariant-loop-i
-invariant-loop-i l = (l.i ≤ length l.k) × Gathered l.k l.v l.i
-
-abbrev pub decreases-loop-i : goal.decreases-loop-i
-decreases-loop-i l = length l.k - l.i
+abbrev pub invariant-loop-c : goal.invariant-loop-c
+invariant-loop-c l = Gathered l.k l.bits (length l.k - length l.c-items + l.c-index)

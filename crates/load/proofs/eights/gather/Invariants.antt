@@ -1,10 +1,7 @@
--- v is the number of the characters passed. The measure is what is left of the text.
-use Rattle.std.proofs.Common.{◌-◌, ◌≤◌, length}
+-- The bits are the number of the characters passed, which are whole groups.
+use Rattle.std.proofs.Common.{◌≡◌, ◌*◌}
 use Rattle.load.specs.Gathering.{Gathered}
 use Rattle.load.proofs.eights.gather.Given as goal
 
-abbrev pub invariant-loop-i : goal.invariant-loop-i
-invariant-loop-i l = (l.i ≤ length l.k) × Gathered l.k l.v l.i
-
-abbrev pub decreases-loop-i : goal.decreases-loop-i
-decreases-loop-i l = length l.k - l.i
+abbrev pub invariant-loop-group : goal.invariant-loop-group
+invariant-loop-group l = (l.passed ≡ 8 * l.group-index) × Gathered l.k l.bits l.passed
