@@ -1,5 +1,5 @@
 -- One passage after another, from an unread input and an empty buffer to the end.
-use Rattle.std.specs.Prelude.{◌≡◌, refl, List, [], ◌++◌, ℕ, ◌+◌, ◌≤◌, ◌<◌, length, Option, Some, None, IfSome, Result, Ok, Err, OnOk}
+use Rattle.std.specs.Prelude.{◌≡◌, refl, List, [], ◌++◌, ℕ, ◌+◌, ◌≤◌, ◌<◌, length, Option, Some, None, Result, Ok, Err, OnOk, MatchResult, is_ok, true}
 use Rattle.std.proofs.Common.{sym, ◌∙◌, arith, append_assoc, append-nil, length-append}
 use Rattle.std.specs.Io.KnownBytes.{Appends, Consumes, IsAtEnd}
 use Rattle.fields.specs.declared.Field.{Field}
@@ -8,7 +8,7 @@ use Rattle.lines.specs.Machines.{whole, run}
 use Rattle.list.specs.Ratios.{ratios}
 use Rattle.list.specs.Lines.{listing-run}
 use Rattle.outcomes.specs.Listing.{listing}
-use Rattle.lister.specs.Flow.{Passes, Answers, WritesListing}
+use Rattle.lister.specs.Flow.{Passes, Answers, ListsPart, WritesAll, WritesListing}
 
 pub appends_none : (o : Option (List ℕ)) → Appends o o []
 appends_none None = tt
@@ -69,71 +69,75 @@ pub answers_both : {s s' s'' : Field} {p q a b : List ℕ} → Answers s p a s' 
 answers_both {p = p} {q = q} f g = record { all = λ t. rw (append_assoc p q t, f.all (q ++ t), g.all t, append_assoc) }
 
 -- Some of the input was read, some turns were made, and what was read is answered: that is with the writer, or waits.
-pub record Reached (unread first left now : Option (List ℕ)) (s : Field) (waits : List ℕ) (turns : ℕ) : Type 0 where
-  pub fed : List ℕ
-  pub text : List ℕ
-  pub read : Consumes unread left fed
-  pub some : turns ≤ length fed
-  pub answers : Answers Empty fed text s []
-  pub passes : Passes first now [] text waits
+module _ (unread first : Option (List ℕ)) (begun : Field) (waited : List ℕ) where
+  pub record Reached (left now : Option (List ℕ)) (s : Field) (waits : List ℕ) (turns : ℕ) : Type 0 where
+    pub fed : List ℕ
+    pub text : List ℕ
+    pub read : Consumes unread left fed
+    pub some : turns ≤ length fed
+    pub answers : Answers begun fed text s []
+    pub passes : Passes first now waited text waits
 
-pub reached_start : (o c : Option (List ℕ)) → Reached o c o c Empty [] 0
-reached_start o c =
-    record {
-      fed = [];
-      text = [];
-      read = consumes_none o;
-      some = omega arith;
-      answers = record { all = λ t. refl };
-      passes = passes_none c [];
-    }
+  pub reached_start : Reached unread first begun waited 0
+  reached_start =
+      record {
+        fed = [];
+        text = [];
+        read = consumes_none unread;
+        some = omega arith;
+        answers = record { all = λ t. refl };
+        passes = passes_none first waited;
+      }
 
--- a turn more
-pub reached_more : {o c r r' k k' : Option (List ℕ)} {s s' : Field} {w v p t : List ℕ} {n : ℕ}
-    → Reached o c r k s w n → Consumes r r' p → 1 ≤ length p → Answers s p t s' [] → Passes k k' w t v
-    → Reached o c r' k' s' v (n + 1)
-reached_more {o} {c} {r} {r'} {k} {k'} {s} {s'} {w} {v} {p} {t} {n} reached e l answers passes =
-    record {
-      fed = reached.fed ++ p;
-      text = reached.text ++ t;
-      read = consumes_both o r r' reached.fed p reached.read e;
-      some = omega (arith, reached.some, length-append reached.fed p);
-      answers = answers_both reached.answers answers;
-      passes = passes_both reached.passes passes;
-    }
+module _ {unread first : Option (List ℕ)} {begun : Field} {waited : List ℕ} {left now : Option (List ℕ)} {s : Field}
+    {waits : List ℕ} {n : ℕ} (reached : Reached unread first begun waited left now s waits n)
+    (left' now' : Option (List ℕ)) where
+  -- a turn more
+  pub reached_more : {s' : Field} {v p : List ℕ} → Consumes left left' p → 1 ≤ length p
+      → ListsPart now now' s p waits s' v → Reached unread first begun waited left' now' s' v (n + 1)
+  reached_more {s'} {v} {p} e l lists =
+      record {
+        fed = reached.fed ++ p;
+        text = reached.text ++ lists.text;
+        read = consumes_both unread left left' reached.fed p reached.read e;
+        some = omega (arith, reached.some, length-append reached.fed p);
+        answers = answers_both reached.answers lists.answers;
+        passes = passes_both reached.passes lists.passes;
+      }
 
--- the input is read, and what waits is written, and behind it what the end of the input gives
-pub reached_end : {o c r k : Option (List ℕ)} (r' k' : Option (List ℕ)) {s : Field} {w : List ℕ} {n : ℕ}
-    → Reached o c r k s w n → Consumes r r' [] → IsAtEnd r' → Appends k k' (w ++ whole ratios s [])
-    → IfSome o (λ xs. Appends c k' (whole ratios Empty xs))
-reached_end {o} {c} {r} {k} r' k' {s} {w} {n} reached e at_end wrote = by_cases o r r' reached.read e at_end
-  where
-    all : Appends c k' (whole ratios Empty (reached.fed ++ []))
-    all =
-        rw (reached.answers.all [], reached.passes.rest, append_assoc)
-        (appends_both c k k' reached.passes.gone (w ++ whole ratios s []) reached.passes.written wrote)
+  -- the input is read, and what waits is written, and behind it what the end of the input gives
+  pub writes_end : (room : ℕ) → Consumes left left' [] → (0 < room → IsAtEnd left')
+      → Appends now now' (waits ++ whole ratios s []) → WritesAll unread room first now' waited begun
+  writes_end room e at_end wrote = by_cases unread left left' reached.read e at_end
+    where
+      all : Appends first now' (waited ++ whole ratios begun (reached.fed ++ []))
+      all =
+          rw (reached.answers.all [], ← append_assoc, reached.passes.rest, append_assoc)
+          (appends_both first now now' reached.passes.gone (waits ++ whole ratios s []) reached.passes.written wrote)
 
-    by_cases : (o r r' : Option (List ℕ)) → Consumes o r reached.fed → Consumes r r' [] → IsAtEnd r'
-        → IfSome o (λ xs. Appends c k' (whole ratios Empty xs))
-    by_cases None r r' e f g = tt
-    by_cases (Some xs) None r' e f g = absurd e
-    by_cases (Some xs) (Some ys) None e f g = absurd f
-    by_cases (Some xs) (Some ys) (Some zs) e f g = rw (e, f, g) all
+      by_cases : (o r r' : Option (List ℕ)) → Consumes o r reached.fed → Consumes r r' [] → (0 < room → IsAtEnd r')
+          → WritesAll o room first now' waited begun
+      by_cases None r r' e f g = tt
+      by_cases (Some xs) None r' e f g = absurd e
+      by_cases (Some xs) (Some ys) None e f g = absurd f
+      by_cases (Some xs) (Some ys) (Some zs) e f g = λ h l. rw (e, f, g h) all
 
 whole_listing : (xs : List ℕ) → whole ratios Empty xs ≡ listing xs
 unfolding run
 whole_listing xs = listing-run xs []
 
--- so the whole listing is
-pub writes_end : {o c r k : Option (List ℕ)} (r' k' : Option (List ℕ)) {s : Field} {w : List ℕ} {n : ℕ} (room : ℕ)
-    → Reached o c r k s w n → Consumes r r' [] → (0 < room → IsAtEnd r') → Appends k k' (w ++ whole ratios s [])
-    → WritesListing o room c k'
-writes_end {o} {c} {r} {k} r' k' {s} {w} {n} room reached e at_end wrote = by_cases o reached
-  where
-    by_cases : (o : Option (List ℕ)) → Reached o c r k s w n → WritesListing o room c k'
-    by_cases None reached = tt
-    by_cases (Some xs) reached = λ h l. rw (← whole_listing xs) (reached_end r' k' reached e (at_end h) wrote)
+-- from an empty buffer on, the whole listing is written
+pub writes_listing : (unread old new : Option (List ℕ)) (room : ℕ) → 0 < room → WritesAll unread room old new [] Empty
+    → WritesListing unread old new
+writes_listing None old new room h w = tt
+writes_listing (Some xs) old new room h w = λ l. rw (← whole_listing xs) (w h l)
 
 pub on_ok : {T E P Q : Type 0} (r : Result T E) → OnOk r P → (P → Q) → OnOk r Q
 on_ok (Ok x) p f = f p
 on_ok (Err e) p f = tt
+
+-- what an error was made of otherwise gave what it gives
+pub ok_before : {T E D : Type 0} (P : E → Type 0) (q : Result T E) {r : Result T D} {x : T}
+    → MatchResult q (λ y. r ≡ Ok y) P → is_ok r ≡ is_ok q → r ≡ Ok x → q ≡ Ok x
+ok_before P (Ok y) h same e = cc
+ok_before P (Err y) {r} h same e = let ok : is_ok r ≡ true = rw e refl in cc

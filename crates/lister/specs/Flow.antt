@@ -1,10 +1,9 @@
 -- How the input becomes the listing through the buffers: what is read is answered into the output buffer, behind what
 -- waits there, and what waits goes from the front to the writer.
-use Rattle.std.specs.Prelude.{◌≡◌, List, [], ◌++◌, ℕ, ◌+◌, ◌-◌, ◌^◌, ◌<◌, length, take, drop, Option, IfSome}
+use Rattle.std.specs.Prelude.{◌≡◌, List, [], ◌++◌, ℕ, ◌-◌, ◌^◌, ◌<◌, length, drop, Option, IfSome}
 use Rattle.std.specs.Io.KnownBytes.{Appends}
 use Rattle.fields.specs.declared.Field.{Field}
 use Rattle.lines.specs.Machines.{whole}
-use Rattle.list.specs.declared.Listed.{Listed}
 use Rattle.list.specs.Ratios.{ratios}
 use Rattle.outcomes.specs.Listing.{listing}
 
@@ -19,11 +18,11 @@ pub record Passes (old new : Option (List ℕ)) (waited text waits : List ℕ) :
 pub record Answers (s : Field) (part text : List ℕ) (s' : Field) (left : List ℕ) : Type 0 where
   pub all : (t : List ℕ) → whole ratios s (part ++ t) ≡ text ++ whole ratios s' (left ++ t)
 
--- A part is listed from at on, into memory from held on.
-pub record AddsFrom (s : Field) (at : ℕ) (part : List ℕ) (held : ℕ) (out : List ℕ) (r : Listed) (e : List ℕ) : Type 0 where
+-- Some of a part is listed: its answers come behind what waited.
+pub record Adds (s : Field) (part waited : List ℕ) (taken : ℕ) (s' : Field) (waits : List ℕ) : Type 0 where
   pub text : List ℕ
-  pub answers : Answers s (drop at part) text r.field (drop (at + r.taken) part)
-  pub memory : take (held + r.written) e ≡ take held out ++ text
+  pub answers : Answers s part text s' (drop taken part)
+  pub memory : waits ≡ waited ++ text
 
 -- All of a part is listed.
 pub record ListsPart (old new : Option (List ℕ)) (s : Field) (part waited : List ℕ) (s' : Field) (waits : List ℕ) : Type 0 where
@@ -31,8 +30,12 @@ pub record ListsPart (old new : Option (List ℕ)) (s : Field) (part waited : Li
   pub answers : Answers s part text s' []
   pub passes : Passes old new waited text waits
 
--- The writer got the listing of all that the reader had, if there is room to read into. The turns of 64 bits suffice for
--- fewer bytes than they are.
-abbrev pub WritesListing : Option (List ℕ) → ℕ → Option (List ℕ) → Option (List ℕ) → Type 0
-WritesListing unread room old new =
-    IfSome unread (λ input. 0 < room → length input < 2 ^ 64 - 1 → Appends old new (listing input))
+-- The writer got what waited, and then what is written from the field s on for all that the reader had, if there is
+-- room to read into. The turns of 64 bits suffice for fewer bytes than they are.
+abbrev pub WritesAll : Option (List ℕ) → ℕ → Option (List ℕ) → Option (List ℕ) → List ℕ → Field → Type 0
+WritesAll unread room old new waited s =
+    IfSome unread (λ input. 0 < room → length input < 2 ^ 64 - 1 → Appends old new (waited ++ whole ratios s input))
+
+-- The writer got the listing of all that the reader had.
+abbrev pub WritesListing : Option (List ℕ) → Option (List ℕ) → Option (List ℕ) → Type 0
+WritesListing unread old new = IfSome unread (λ input. length input < 2 ^ 64 - 1 → Appends old new (listing input))

@@ -3,15 +3,13 @@
 #![tactic(auto)]
 
 ghost use Rattle.std.specs.Prelude.{◌≡◌, [], ◌++◌, ◌+◌, ◌≤◌, ◌<◌, length, take, IfOk, OnOk};
-ghost use Rattle.std.specs.Io.{ReadsAtMost};
-ghost use Rattle.std.specs.Io.KnownBytes.{Appends, ReadConsumes};
+ghost use Rattle.std.specs.Io.KnownBytes.{Appends};
 ghost use Rattle.lines.specs.Machines.{whole};
 ghost use Rattle.list.specs.Ratios.{ratios};
-ghost use Rattle.lister.specs.Buffers.{HasRoom, IsWithin, ListsFrom};
-ghost use Rattle.lister.specs.Flow.{AddsFrom, ListsPart, Passes, WritesListing};
+ghost use Rattle.lister.specs.declared.TheConstants.{PART};
+ghost use Rattle.lister.specs.Flow.{Adds, ListsPart, Passes, WritesAll, WritesListing};
 
 use fields::Field;
-use list::Listed;
 use std::io::{Read, Write};
 use std::process::ExitCode;
 use std::{fmt, io};
@@ -35,135 +33,128 @@ impl fmt::Display for Stopped {
     }
 }
 
-// The field of the line that isn't ended yet, and how many bytes at the front of the output buffer wait to be written.
+// The writer, the answers that wait for it at the front of a buffer, and the field of the line that isn't ended yet.
 #[derive(Drop)]
-struct Waiting {
-    field: Field,
+struct Output<W> {
+    to: W,
+    buffer: [u8; PART],
     held: usize,
+    field: Field,
+    ghost size: { length buffer ≡ PART },
+    ghost within: { held ≤ PART },
 }
 
-// Writes what waits.
-fn put_out<W: Write>(to: &mut W, held: usize, out: &[u8]) -> Result<(), Stopped>
-    requires { held ≤ length out.now }
-    ensures { OnOk result (Appends (W.contents to.old) (W.contents to.new) (take held out.now)) }
-{
-    match to.write_all(&out[..held]) {
-        Ok(()) => Ok(()),
-        Err(e) => Err(Stopped::Writing(e)),
+impl<W: Write> Output<W> {
+    // Writes what waits.
+    fn flush(&mut self) -> Result<(), Stopped>
+        ensures written { OnOk result (Appends (W.contents self.old.to) (W.contents self.new.to)
+            (take self.old.held self.old.buffer)) }
+        ensures empty { OnOk result (self.new.held ≡ 0) }
+        ensures same { self.new.field ≡ self.old.field }
+    {
+        self.to
+            .write_all(&self.buffer[..self.held])
+            .map_err(Stopped::Writing)?;
+        self.held = 0;
+        Ok(())
     }
-}
 
-// Room for an answer: where there is less, what waits is written. How many bytes then wait.
-fn make_room<W: Write>(to: &mut W, held: usize, out: &[u8]) -> Result<usize, Stopped>
-    requires { (held ≤ length out.now) × (130 ≤ length out.now) }
-    ensures room { HasRoom (length out.now) result }
-    ensures passes { IfOk result (λ from. Passes (W.contents to.old) (W.contents to.new) (take held out.now) []
-        (take from out.now)) }
-{
-    if list::ROOM <= out.len() - held {
-        return Ok(held);
-    }
-    put_out(to, held, out)?;
-    Ok(0)
-}
-
-// Lists what stands in part from at on, into out from held on.
-fn list_from(field: Field, part: &[u8], at: usize, out: &mut [u8], held: usize) -> Listed
-    requires { (at < length part.now) × (held + 130 ≤ length out.old) }
-    ensures counts { ListsFrom at (length part.now) held (length out.old) result }
-    ensures adds { AddsFrom field at part.now held out.old result out.new }
-{
-    list::list(field, &part[at..], &mut out[held..])
-}
-
-// Lists all of a part that was read.
-fn list_part<W: Write>(
-    to: &mut W,
-    begun: Field,
-    waiting: usize,
-    part: &[u8],
-    out: &mut [u8],
-) -> Result<Waiting, Stopped>
-    requires { (waiting ≤ length out.old) × (130 ≤ length out.old) }
-    ensures within { IsWithin (length out.old) result }
-    ensures lists { IfOk result (λ w. ListsPart (W.contents to.old) (W.contents to.new) begun part.now
-        (take waiting out.old) w.field (take w.held out.new)) }
-{
-    let mut field = begun;
-    let mut held = waiting;
-    let mut at = 0;
-    while at < part.len() {
-        let from = make_room(to, held, out)?;
-        let listed = list_from(field, part, at, out, from);
-        at += listed.taken;
-        held = from + listed.written;
-        field = listed.field;
-    }
-    Ok(Waiting { field, held })
-}
-
-// Lists a last line that has no newline, into out from held on; how much then waits.
-fn list_last(field: Field, out: &mut [u8], held: usize) -> usize
-    requires { held ≤ length out.old }
-    ensures within { result ≤ length out.old }
-    ensures adds { held + 130 ≤ length out.old → take result out.new ≡ take held out.old ++ whole ratios field [] }
-{
-    let listed = list::finish(field, &mut out[held..]);
-    held + listed.written
-}
-
-// The end of the input.
-fn end<W: Write>(to: &mut W, field: Field, held: usize, out: &mut [u8]) -> Result<(), Stopped>
-    requires { (held ≤ length out.old) × (130 ≤ length out.old) }
-    ensures { OnOk result (Appends (W.contents to.old) (W.contents to.new)
-        (take held out.old ++ whole ratios field [])) }
-{
-    let from = make_room(to, held, out)?;
-    let n = list_last(field, out, from);
-    put_out(to, n, out)
-}
-
-// How many bytes a read put at the front of the input buffer: none at the end of the input.
-fn get_part<R: Read>(from: &mut R, input: &mut [u8]) -> Result<usize, Stopped>
-    ensures within { ReadsAtMost result input.new }
-    ensures bytes { ReadConsumes (R.remaining from.old) (R.remaining from.new) result input.new }
-{
-    match from.read(input) {
-        Ok(n) => Ok(n),
-        Err(e) => Err(Stopped::Reading(e)),
-    }
-}
-
-// Nothing says that an input ends, so the turns are counted, up to a number that no run uses up.
-fn list_input<R: Read, W: Write>(
-    from: &mut R,
-    to: &mut W,
-    input: &mut [u8],
-    out: &mut [u8],
-) -> Result<(), Stopped>
-    requires { 130 ≤ length out.old }
-    ensures { OnOk result (WritesListing (R.remaining from.old) (length input.old) (W.contents to.old)
-        (W.contents to.new)) }
-{
-    let mut field = Field::Empty;
-    let mut held = 0;
-    for _ in 0..u64::MAX {
-        let n = get_part(from, input)?;
-        if n == 0 {
-            return end(to, field, held, out);
+    // Room for an answer: where there is less, what waits is written.
+    fn make_room(&mut self) -> Result<(), Stopped>
+        ensures room { OnOk result (self.new.held + 130 ≤ PART) }
+        ensures passes { OnOk result (Passes (W.contents self.old.to) (W.contents self.new.to)
+            (take self.old.held self.old.buffer) [] (take self.new.held self.new.buffer)) }
+        ensures same { self.new.field ≡ self.old.field }
+    {
+        if self.buffer.len() - self.held < list::ROOM {
+            self.flush()?;
         }
-        let went = list_part(to, field, held, &input[..n], out)?;
-        field = went.field;
-        held = went.held;
+        Ok(())
     }
-    Ok(())
+
+    // Lists as much of a part as there is room for, and tells how much that is.
+    fn list_some(&mut self, part: &[u8]) -> usize
+        requires { (0 < length part.now) × (self.old.held + 130 ≤ PART) }
+        ensures some { (1 ≤ result) × (result ≤ length part.now) }
+        ensures adds { Adds self.old.field part.now (take self.old.held self.old.buffer) result self.new.field
+            (take self.new.held self.new.buffer) }
+        ensures same { self.new.to ≡ self.old.to }
+    {
+        let listed = list::list(self.field, part, &mut self.buffer[self.held..]);
+        self.held += listed.written;
+        self.field = listed.field;
+        listed.taken
+    }
+
+    // Lists all of a part.
+    fn list_part(&mut self, part: &[u8]) -> Result<(), Stopped>
+        ensures { OnOk result (ListsPart (W.contents self.old.to) (W.contents self.new.to) self.old.field part.now
+            (take self.old.held self.old.buffer) self.new.field (take self.new.held self.new.buffer)) }
+    {
+        let mut left = part;
+        while !left.is_empty() {
+            self.make_room()?;
+            let taken = self.list_some(left);
+            left = &left[taken..];
+        }
+        Ok(())
+    }
+
+    // Lists a last line that has no newline, where there is room for its answer.
+    fn list_last(&mut self)
+        requires { self.old.held + 130 ≤ PART }
+        ensures adds { take self.new.held self.new.buffer
+            ≡ take self.old.held self.old.buffer ++ whole ratios self.old.field [] }
+        ensures same { self.new.to ≡ self.old.to }
+    {
+        self.held += list::finish(self.field, &mut self.buffer[self.held..]).written;
+    }
+
+    // The end of the input: all is written.
+    fn end(&mut self) -> Result<(), Stopped>
+        ensures { OnOk result (Appends (W.contents self.old.to) (W.contents self.new.to)
+            (take self.old.held self.old.buffer ++ whole ratios self.old.field [])) }
+    {
+        self.make_room()?;
+        self.list_last();
+        self.flush()
+    }
+
+    // Lists all that a reader has, by way of a buffer. Nothing says that an input ends, so the turns are counted, up to
+    // a number that no run uses up.
+    fn list_all<R: Read>(&mut self, from: &mut R, input: &mut [u8]) -> Result<(), Stopped>
+        ensures { OnOk result (WritesAll (R.remaining from.old) (length input.old) (W.contents self.old.to)
+            (W.contents self.new.to) (take self.old.held self.old.buffer) self.old.field) }
+    {
+        for _ in 0..u64::MAX {
+            let n = from.read(input).map_err(Stopped::Reading)?;
+            if n == 0 {
+                return self.end();
+            }
+            self.list_part(&input[..n])?;
+        }
+        Ok(())
+    }
+}
+
+// Lists all that a reader has, and gives the writer back.
+fn list_input<R: Read, W: Write + Drop>(from: &mut R, to: W) -> Result<W, Stopped>
+    ensures { IfOk result (λ written. WritesListing (R.remaining from.old) (W.contents to) (W.contents written)) }
+{
+    let mut input = [0; PART];
+    let mut output = Output {
+        to,
+        buffer: [0; PART],
+        held: 0,
+        field: Field::Empty,
+    };
+    output.list_all(from, &mut input)?;
+    Ok(output.to)
 }
 
 fn main(rt: HostRuntime) -> ExitCode {
-    let mut input = [0; PART];
-    let mut out = [0; PART];
-    match list_input(&mut rt.stdin(), &mut rt.stdout(), &mut input, &mut out) {
-        Ok(()) => ExitCode::SUCCESS,
+    match list_input(&mut rt.stdin(), rt.stdout()) {
+        Ok(_) => ExitCode::SUCCESS,
         Err(stopped) => {
             let _ = eprintln!(rt; "lister: {stopped}");
             ExitCode::FAILURE

@@ -10,5 +10,5 @@ unfolding refused_line printed
 returns c =
     let word : Puts (printed "refused ") c.args.out.now 8 (c.copy_from_slice.new.self ++ drop 8 c.args.out.now) =
     record { count = refl; memory = rw c.copy_from_slice.ensures.after refl } in
-    rw (← c.number.ensures)
-    (puts-text word {size = 130} (puts-length word (omega arith) ∙ c.told-out) _ _ _ c.put_number.ensures.puts)
+    let same = puts-length word (omega arith) ∙ c.told-out in
+    rw (← c.number.ensures) (puts-text word same _ _ _ c.put_number.ensures.puts)
