@@ -35,7 +35,7 @@ fn go_on(mut d: u32, mut r: u32, mut line: Line, mut quotients: u32) -> Spelled
         quotients += 2;
     }
     Spelled {
-        block: line.aligned(),
+        block: Block::from(line),
         quotients,
         divisor: d,
     }
@@ -51,9 +51,9 @@ pub fn spell(p: u32, q: u32) -> Result<Spelled, Refusal>
     let a = p / q;
     let r = p % q;
     if a == 0 {
-        return Ok(go_on(q, r, Line::of(false), 0));
+        return Ok(go_on(q, r, Line::from(false), 0));
     }
-    let mut line = Line::of(true);
+    let mut line = Line::from(true);
     line.append_word(a);
     Ok(go_on(q, r, line, 1))
 }

@@ -21,22 +21,25 @@ impl Model for Line {
     ghost invariant = { IsLine };
 }
 
-impl Line {
-    ghost use Rattle.std.specs.Prelude.{◌≡◌, ◌+◌, ◌^◌, ◌≤◌, ◌<◌, [], ◌∷◌, ◌++◌, length};
-    ghost use Rattle.bits.specs.Strings.{turn};
-    ghost use Rattle.bits.specs.Binary.{digits_in};
-    ghost use Rattle.blocks.specs.Blocks.{block_of};
-    ghost use Rattle.families.specs.Words.{word_of};
+// The string of one bit.
+impl From<bool> for Line {
+    ghost use Rattle.std.specs.Prelude.{◌≡◌, [], ◌∷◌};
 
-    // The string of one bit.
-    pub fn of(bit: bool) -> Line
-        ensures { result ≡ bit ∷ [] }
-    {
+    ghost from_gives = { λ bit line. line ≡ bit ∷ [] };
+
+    fn from(bit: bool) -> Line {
         Line {
             number: bit as u128,
             bits: 1,
         }
     }
+}
+
+impl Line {
+    ghost use Rattle.std.specs.Prelude.{◌≡◌, ◌+◌, ◌^◌, ◌≤◌, ◌<◌, ◌++◌, length};
+    ghost use Rattle.bits.specs.Strings.{turn};
+    ghost use Rattle.bits.specs.Binary.{digits_in};
+    ghost use Rattle.families.specs.Words.{word_of};
 
     // n bits more, those of w.
     fn append(&mut self, w: u64, n: u32)
@@ -68,12 +71,17 @@ impl Line {
         let k = a.ilog2();
         self.append((3 << k) - 1 - (a as u64), 2 * k + 1);
     }
+}
 
-    // The block of the string.
-    pub fn aligned(&self) -> Block
-        ensures { result ≡ block_of self.now }
-    {
-        let raised = self.number << (96 - self.bits);
+// The block of the string, which moves to the top of its 96 bits.
+impl From<Line> for Block {
+    ghost use Rattle.std.specs.Prelude.{◌≡◌};
+    ghost use Rattle.blocks.specs.Blocks.{block_of};
+
+    ghost from_gives = { λ line block. block ≡ block_of line };
+
+    fn from(line: Line) -> Block {
+        let raised = line.number << (96 - line.bits);
         Block {
             high: (raised >> 32) as u64,
             low: (raised % (1 << 32)) as u32,

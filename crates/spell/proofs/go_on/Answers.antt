@@ -14,4 +14,4 @@ loop-r-preserved c =
     going-again (omega arith) c.loop-r.invariant.here c.loop-r.invariant c.append_turned.ensures c.append_word.ensures
 
 pub returns : goal.returns
-returns c = rw c.aligned.ensures (going-end c.loop-r.invariant c.loop-r-test.false)
+returns c = rw c.from.ensures (going-end c.loop-r.invariant c.loop-r-test.false)

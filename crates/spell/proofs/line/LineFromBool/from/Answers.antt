@@ -2,7 +2,7 @@
 use Rattle.std.specs.Prelude.{◌≡◌, refl, Bool, true, false, [], ◌∷◌}
 use mir.Val.{bool_byte}
 use Rattle.bits.specs.Binary.{digits_in}
-use Rattle.spell.proofs.line.Line.of.Goals as goal
+use Rattle.spell.proofs.line.LineFromBool.from.Goals as goal
 
 one_digit : (b : Bool) → digits_in 1 (bool_byte b) ≡ b ∷ []
 unfolding digits_in
