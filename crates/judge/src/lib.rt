@@ -5,6 +5,7 @@ ghost use Rattle.std.specs.Prelude.{◌≡◌, ◌+◌, ◌*◌, ◌^◌, ◌≤
 ghost use Rattle.tables.specs.Layouts.{stock_rows};
 ghost use Rattle.tables.specs.Rows.{row_size, rows_in};
 ghost use Rattle.tables.specs.Moves.{row_at};
+ghost use Rattle.outcomes.specs.BlockOrder.{block_below};
 ghost use Rattle.outcomes.specs.Stocking.{wrong_size};
 ghost use Rattle.judge.specs.Judging.{falls_at, passed_at, judged_rows, judged};
 
@@ -29,11 +30,25 @@ pub fn row_at(m: &[u8], i: usize) -> Row
     }
 }
 
+// Whether a key stands before another. The high words nearly always decide, and branches ask them alone. The derived `<`
+// becomes code without branches, of 12 instructions a row more: judging then misses its bar of 1.05 times plain C.
+pub fn is_below(a: Block, b: Block) -> bool
+    ensures { result ≡ block_below a b }
+{
+    if a.high < b.high {
+        return true;
+    }
+    if b.high < a.high {
+        return false;
+    }
+    a.low < b.low
+}
+
 // Whether the key of row i doesn't stand behind that of the row before it. The first row has none before it.
 fn falls(i: usize, last: Block, block: Block) -> bool
     ensures { result ≡ falls_at i last block }
 {
-    i != 0 && !(last < block)
+    i != 0 && !is_below(last, block)
 }
 
 // How many rows at the front stand before a key, where below of the i rows in front of this one do.
@@ -41,7 +56,7 @@ fn pass(below: usize, i: usize, block: Block, key: Block) -> usize
     requires { i + 1 < 2 ^ 64 }
     ensures { result ≡ passed_at below i block key }
 {
-    if below == i && block < key {
+    if below == i && is_below(block, key) {
         i + 1
     } else {
         below
