@@ -31,13 +31,13 @@ Some s = is_blank s ≡ false
 digit_some : (s : Field) (d : ℕ) → Some (fed_digit s d)
 digit_some Empty d = refl
 digit_some (First n) d = chosen Some (ltb n.digits 10) refl (λ _. refl)
-digit_some (Second p n) d = chosen Some (ltb n.digits 10) refl (λ _. refl)
+digit_some (Second n p) d = chosen Some (ltb n.digits 10) refl (λ _. refl)
 digit_some Bad d = refl
 
 slash_some : (s : Field) → Some (fed_slash s)
 slash_some Empty = refl
 slash_some (First n) = refl
-slash_some (Second p n) = refl
+slash_some (Second n p) = refl
 slash_some Bad = refl
 
 pub fed_not_blank : (s : Field) (c : ℕ) → is_blank (fed_by s c) ≡ false
@@ -110,13 +110,13 @@ digit_fed f e false b x next t h = bad_typed t ∙ sym e
 
 -- the denominator: t goes on n digits that stand for w, for which v is kept
 second_typed : (p r n v w : ℕ) (t : List ℕ) → Alike p r → Alike v w
-    → typed_of (foldl fed_by (Second p (numeral n v)) t) ≡ typed_by (ends_numeral n t) r (value_from w t)
+    → typed_of (foldl fed_by (Second (numeral n v) p) t) ≡ typed_by (ends_numeral n t) r (value_from w t)
 second_typed p r zero v w [] a b = refl
 second_typed p r (suc n) v w [] a b = rw (eqb-suc-zero n, lt-ltb 0 (suc n) (omega arith)) (alike_typed p r v w a b)
 second_typed p r n v w (c ∷ t) a b =
     rw (bad_chosen (eqb c 47))
     (digit_fed (λ x. typed_by x r (value_from w (c ∷ t))) refl (is_digit c) (ltb n 10) (ends_numeral (n + 1) t)
-    (Second p (longer (numeral n v) (c - 48))) t
+    (Second (longer (numeral n v) (c - 48)) p) t
     (second_typed p r (n + 1) (grown v (c - 48)) (w * 10 + (c - 48)) t a (alike-grown v w (c - 48) b)))
 
 -- what first, a slash and second type behind n digits that stand for w

@@ -21,14 +21,14 @@ longer n d = record { digits = n.digits + 1; value = grown n.value d }
 abbrev pub fed_digit : Field → ℕ → Field
 fed_digit Empty d = First (record { digits = 1; value = d })
 fed_digit (First n) d = cond (ltb n.digits 10) (First (longer n d)) Bad
-fed_digit (Second p n) d = cond (ltb n.digits 10) (Second p (longer n d)) Bad
+fed_digit (Second n p) d = cond (ltb n.digits 10) (Second (longer n d) p) Bad
 fed_digit Bad d = Bad
 
 -- a slash in front, and a second one, make it bad
 abbrev pub fed_slash : Field → Field
 fed_slash Empty = Bad
-fed_slash (First n) = Second n.value (record { digits = 0; value = 0 })
-fed_slash (Second p n) = Bad
+fed_slash (First n) = Second (record { digits = 0; value = 0 }) n.value
+fed_slash (Second n p) = Bad
 fed_slash Bad = Bad
 
 -- a digit, a slash, anything else
@@ -42,7 +42,7 @@ feed_of s c = cond (eqb c 10) None (Some (fed_by s c))
 abbrev pub is_blank : Field → Bool
 is_blank Empty = true
 is_blank (First n) = false
-is_blank (Second p n) = false
+is_blank (Second n p) = false
 is_blank Bad = false
 
 -- of digits, a slash and n digits
@@ -54,5 +54,5 @@ typed_with p n v =
 abbrev pub typed_of : Field → Result Fraction Refusal
 typed_of Empty = Err Malformed
 typed_of (First n) = Err Malformed
-typed_of (Second p n) = typed_with p n.digits n.value
+typed_of (Second n p) = typed_with p n.digits n.value
 typed_of Bad = Err Malformed

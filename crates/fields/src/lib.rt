@@ -35,14 +35,15 @@ impl Numeral {
     }
 }
 
-// What was fed so far: nothing; digits; digits, a slash and perhaps digits; or what no ratio begins with.
+// What was fed so far: nothing; digits; digits, a slash and perhaps digits; or what no ratio begins with. The numeral
+// that grows comes first, so that a digit is added at the same place in memory.
 #[derive(Clone, Copy)]
 pub enum Field {
     Empty,
     First(Numeral),
     Second {
-        numerator: u64,
         denominator: Numeral,
+        numerator: u64,
     },
     Bad,
 }
@@ -61,12 +62,12 @@ impl Field {
                 None => Field::Bad,
             },
             Field::Second {
-                numerator,
                 denominator,
+                numerator,
             } => match denominator.longer(digit) {
                 Some(denominator) => Field::Second {
-                    numerator,
                     denominator,
+                    numerator,
                 },
                 None => Field::Bad,
             },
@@ -79,11 +80,11 @@ impl Field {
     {
         match self {
             Field::First(numeral) => Field::Second {
-                numerator: numeral.value,
                 denominator: Numeral {
                     digits: 0,
                     value: 0,
                 },
+                numerator: numeral.value,
             },
             _ => Field::Bad,
         }
@@ -113,8 +114,8 @@ impl Field {
         ensures { result ≡ typed_of self }
     {
         let Field::Second {
-            numerator,
             denominator,
+            numerator,
         } = self
         else {
             return Err(Refusal::Malformed);

@@ -31,7 +31,7 @@ pub answer_size : (s : Field) → length (answer_of s) ≤ 130
 answer_size Empty = refused_size 10 (omega arith)
 answer_size (First n) = refused_size 10 (omega arith)
 answer_size Bad = refused_size 10 (omega arith)
-answer_size (Second p n) =
+answer_size (Second n p) =
     let v = n.value in
     chosen (Fits answer_typed) (eqb n.digits 0) (refused_size 10 (omega arith)) (λ _.
     chosen (Fits answer_typed) (ltb limit p || ltb limit v) (refused_size 7 (omega arith)) (λ e.
