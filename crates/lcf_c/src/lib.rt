@@ -1,4 +1,5 @@
-// The archive that C links: each call of `lcf` under its plain name, with the same clauses.
+// The archive that C links: each call of `lcf` under its plain name, with the same clauses. They stand twice, since an
+// export can't stand in a library.
 #![tactic(auto)]
 
 ghost use Rattle.std.specs.Prelude.{[], ◌≡◌};

@@ -19,7 +19,8 @@ fn counted<K: fmt::Display + Drop>(
     println!(rt; "{key}, characters {characters}, quotients {quotients}, rest {rest}")
 }
 
-// The text key of p/q, in n bytes.
+// The text key of p/q, in n bytes. Text and column differ in the call, in how the key is shown and in how much of the
+// buffer is its own: one function for both would take these three as arguments, and be longer.
 pub fn text_of(rt: &impl Print, p: u32, q: u32, n: usize) -> io::Result<()> {
     print!(rt; "write {p}/{q} into {n} bytes: ")?;
     let mut buffer = [FILL; 128];
