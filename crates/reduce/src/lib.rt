@@ -21,6 +21,7 @@ pub fn greatest_divisor(a: u32, b: u32) -> u32
 }
 
 // p/q in lowest terms.
+#[tactic(auto, unfolding(outcomes::specs::Reading::reduce, fractions::specs::Fractions::lowest_terms))]
 pub fn lowest_terms(p: u32, q: u32) -> Result<Fraction, Refusal>
     ensures { leaves (answered 2 terms_as result) [] ≡ reduce p q }
 {
