@@ -42,6 +42,7 @@ fn go_on(mut d: u32, mut r: u32, mut line: Line, mut quotients: u32) -> Spelled
 }
 
 // The key of p/q. From 1 on it begins with 1 and the word of the whole part, below 1 with 0.
+#[tactic(auto, unfolding(crate::specs::Spelling::spelling))]
 pub fn spell(p: u32, q: u32) -> Result<Spelled, Refusal>
     ensures { result ≡ spelling p q }
 {

@@ -1,13 +1,8 @@
 -- The loop goes on from a leading 0 where the ratio is below 1, and else from 1 and the word of the whole part. So it
 -- gives the block of all that is written.
-use Rattle.std.proofs.Common.{arith, eq-eqb}
+use Rattle.std.proofs.Common.{arith}
 use Rattle.spell.proofs.Beginning.{begun-below, begun-from, begun-room, begun-answer, whole-fits}
-use Rattle.spell.specs.Spelling.{spelling}
 use Rattle.spell.proofs.spell.Goals as goal
-
-pub returns-then-q-eq0 : goal.returns-then-q-eq0
-unfolding spelling
-returns-then-q-eq0 c = simp (eq-eqb _ _ c.if-q-eq0.true)
 
 pub go_on-requires : goal.go_on-requires
 go_on-requires c =
