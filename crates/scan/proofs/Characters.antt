@@ -1,8 +1,12 @@
 -- The word in front of a text, read from its characters: its run is counted, zeros are told from the end, digits are
 -- read.
-use Rattle.std.specs.Prelude.{◌≡◌, refl, Bool, true, false, not, List, [], ◌∷◌, ℕ, zero, suc, ◌+◌, ◌*◌, ◌-◌, ◌^◌, ◌≤◌, ◌<◌, min, eqb, length, get_or, take, drop, Err}
-use Rattle.std.proofs.Common.{sym, ◌∙◌, ap, add-zero, add-one, ne_eqb, drop_of_length-le, pow_mono, drop-cons, get_or-drop}
+use Rattle.std.specs.Prelude.{◌≡◌, refl, Bool, true, false, not, cond, ◌&&◌, Option, Some, None, List, [], ◌∷◌, ℕ, zero, suc, ◌+◌, ◌*◌, ◌-◌, ◌^◌, ◌≤◌, ◌<◌, min, eqb, ltb, length, get_or, take, drop, Err}
+use Rattle.std.proofs.Common.{sym, ◌∙◌, ap, add-zero, drop_of_length-le, pow_mono, get_or-drop, length-take-le, ltb-true, ltb-false}
 use Rattle.std.specs.Bool.{beq}
+use Rattle.std.specs.List.{prefix_len, position_or_len, list_all, HoldsAt}
+use Rattle.std.specs.Option.{MatchOption, unwrap_or}
+use Rattle.std.specs.Borrow.{Bor}
+use Rattle.std.proofs.Math.Decide.{dec_lt}
 use Rattle.std.proofs.lemmas.Bool.{false≢true}
 use native.Mathlib.Omega.{arith}
 use mir.Val.{bool_byte}
@@ -21,7 +25,7 @@ use Rattle.load.specs.Gathering.{byte_digit}
 use Rattle.scan.specs.declared.Kind.{Kind}
 use Rattle.scan.specs.declared.Place.{Place}
 use Rattle.refusals.specs.declared.Refusal.TheVariants.{OutOfRange}
-use Rattle.scan.specs.Characters.{bits_read, Ran}
+use Rattle.scan.specs.Characters.{bits_read}
 use Rattle.scan.specs.Taking.{is_turned, took, taken_from, taken_at}
 use Rattle.scan.proofs.Taking.{taken_many, taken_few, taken_at_lem}
 
@@ -42,46 +46,68 @@ bit-read k z i = by_kind z (eqb (get_or k i 0) 49) (get_or-map (λ c. eqb c 49) 
     by_kind false true e = e
     by_kind false false e = e
 
-pub ran_none : (s : Bits) → Ran s 0
-ran_none s = omega arith
+-- past the text the bits go on with z, and within it the character that was got says the bit
+pub bit_got : (k : List ℕ) (z : Bool) (i : ℕ) (o : Option (Bor ℕ)) (r : Bool) {P : Bor ℕ → Type 0}
+    → MatchOption o (length k ≤ i) (λ x. (i < length k) × HoldsAt (λ y. x.now ≡ y) k i) → MatchOption o (r ≡ z) P
+    → ((x : Bor ℕ) → P x → r ≡ not (beq (eqb x.now 49) z)) → r ≡ get_or (bits_read k z) i z
+bit_got k z i None r l e f = e ∙ sym (get_or-eq_default (bits_read k z) z {n = i} (omega (arith, bits-length k z)))
+bit_got k z i (Some x) r (l, h) e f = f x e ∙ ap (λ (c : ℕ). not (beq (eqb c 49) z)) (h 0) ∙ sym (bit-read k z i)
 
-module _ (k : List ℕ) (z : Bool) (n : ℕ) where
-  abbrev s : Bits
-  s = bits_read k z
+-- one bit more in front
+run-front : (n x : ℕ) (b : Bool) (s : Bits) → x ≡ min n (run_of s) → cond b (1 + x) 0 ≡ min (suc n) (run_of (b ∷ s))
+run-front n x true s e = omega arith
+run-front n x false s e = omega arith
 
-  next : n < length k → drop n s ≡ not (zero_at k z n) ∷ drop (suc n) s
-  next h = rw (← bit-read k z n) (drop-cons s n z (omega (arith, bits-length k z)))
+differs_true : (b : Bool) → not (beq b true) ≡ not b
+differs_true true = refl
+differs_true false = refl
 
-  past : length k ≤ n → drop n s ≡ []
-  past h = drop_of_length-le s {i = n} (omega (arith, bits-length k z))
+differs_false : (b : Bool) → not (beq b false) ≡ b
+differs_false true = refl
+differs_false false = refl
 
-  pub ran-more : n < length k → zero_at k z n ≡ false → Ran s n → Ran s (n + 1)
-  ran-more l e p =
-      let step : run_of (drop n s) ≡ suc (run_of (drop (suc n) s)) = rw (next l, e) in rw add-one (omega arith)
+-- looking by the library: the first character that is no one, among the first n, or n
+pub run_counted : (n : ℕ) (k : List ℕ) (z : Bool)
+    → prefix_len (λ c. not (beq (eqb c 49) z)) (take n k) ≡ min n (run_of (bits_read k z))
+run_counted zero k z = omega arith
+run_counted (suc n) [] true = omega arith
+run_counted (suc n) [] false = omega arith
+run_counted (suc n) (c ∷ k) true = rw differs_true (run-front n _ (not (eqb c 49)) (bits_read k true) (run_counted n k true))
+run_counted (suc n) (c ∷ k) false = rw differs_false (run-front n _ (eqb c 49) (bits_read k false) (run_counted n k false))
 
-  pub ran_stopped : n < length k → zero_at k z n ≡ true → Ran s n → run_of s ≡ n
-  ran_stopped l e p = let step : run_of (drop n s) ≡ 0 = rw (next l, e) in omega arith
+run_of_lem : (s : Bits) → run_of s ≤ length s
+run_of_lem [] = omega arith
+run_of_lem (true ∷ s) = omega (arith, run_of_lem s)
+run_of_lem (false ∷ s) = omega arith
 
-  pub ran-all : length k ≤ n → Ran s n → run_of s ≡ n
-  ran-all l p = let step : run_of (drop n s) ≡ 0 = rw (past l) in omega arith
+module _ (k : List ℕ) (z : Bool) {most : ℕ} (m : most ≡ min (length k) 32) where
+  abbrev among : List ℕ
+  among = take most k
 
-  -- past the text the bits go on with z
-  pub bit_past : length k ≤ n → get_or s n z ≡ z
-  bit_past l = get_or-eq_default s z {n = n} (omega (arith, bits-length k z))
+  abbrev place : ℕ
+  place = position_or_len (λ c. beq (eqb c 49) z) among
 
--- a turned word is due: whether only ones, which are zeros turned, are left after n characters
-module _ (k : List ℕ) (n : ℕ) where
-  abbrev t : Bits
-  t = bits_read k true
+  pub run_found : {o : Option ℕ} → o ≡ cond (ltb place (length among)) (Some place) None
+      → unwrap_or o most ≡ min 32 (run_of (bits_read k z))
+  run_found e = rw e (by_test (ltb place (length among)) refl)
+    where
+      size : length among ≡ most
+      size = length-take-le most k (omega arith)
 
-  pub ones-more : n < length k → (get_or k n 0 ≡ 49 → ⊥) → all_ones (drop n t) ≡ all_ones (drop (n + 1) t)
-  ones-more l h = rw (next k true n l, ne_eqb (get_or k n 0) 49 h, add-one)
+      whole : run_of (bits_read k z) ≤ length k
+      whole = rw bits-length at (run_of_lem (bits_read k z))
 
-  pub ones_broken : n < length k → get_or k n 0 ≡ 49 → all_ones (drop n t) ≡ false
-  ones_broken l e = rw (next k true n l, e)
+      by_test : (b : Bool) → ltb place (length among) ≡ b
+          → unwrap_or (cond b (Some place) None) most ≡ min 32 (run_of (bits_read k z))
+      by_test true q = omega (arith, ltb-true place (length among) q, size, whole, run_counted most k z)
+      by_test false q = omega (arith, ltb-false place (length among) q, size, whole, run_counted most k z)
 
-  pub ones-all : length k ≤ n → all_ones (drop n t) ≡ true
-  ones-all l = rw (past k true n l)
+-- looking by the library: no character from there on is a 1
+pub zeros_are : (at : ℕ) (k : List ℕ) → list_all (λ c. not (eqb c 49)) (drop at k) ≡ all_ones (drop at (bits_read k true))
+zeros_are zero [] = refl
+zeros_are (suc at) [] = refl
+zeros_are (suc at) (c ∷ k) = zeros_are at k
+zeros_are zero (c ∷ k) = ap (λ b. not (eqb c 49) && b) (zeros_are zero k)
 
 -- ones in front add nothing to that
 ones-after : (n : ℕ) (s : Bits) → n ≤ run_of s → all_ones (drop n s) ≡ all_ones s
@@ -137,6 +163,14 @@ module _ (z : Bool) (s : Bits) (h : ended z s ≡ false) {r : ℕ} (e : r ≡ mi
   run-word l = let same : r ≡ run_of s = omega arith in rw same (taken_few z s h (run_of s) low high (omega arith))
 
 -- at a place that is what is taken from the text behind the characters used, as it is lent
-pub taken-lent : (k : List ℕ) (p : Place) (d : Kind) (at : ℕ) → p.due ≡ d → drop at k ≡ drop p.used k
+pub taken-lent : (k : List ℕ) (p : Place) (d : Kind) (at : ℕ) → p.due ≡ d → at ≡ min p.used (length k)
     → taken_from (is_turned d) (bits_read (take (length k - at) (drop at k)) (is_turned d)) ≡ taken_at (bits_of_text k) p
-taken-lent k p d at e h = rw (lent_part, h, ← drop-map (λ c. eqb c 49) p.used k) (taken_at_lem (bits_of_text k) p d e)
+taken-lent k p d at e h =
+    rw (lent_part, behind, ← drop-map (λ c. eqb c 49) p.used k) (taken_at_lem (bits_of_text k) p d e)
+  where
+    by_size : Dec (p.used < length k) → drop at k ≡ drop p.used k
+    by_size (yes l) = ap (λ (n : ℕ). drop n k) {x = at} {y = p.used} (omega arith)
+    by_size (no l) = drop_of_length-le k (omega arith) ∙ sym (drop_of_length-le k (omega arith))
+
+    behind : drop at k ≡ drop p.used k
+    behind = by_size (dec_lt p.used (length k))

@@ -4,3 +4,4 @@ pub mod Begun
 pub mod Ended
 pub mod Characters
 pub mod Callers
+pub mod Counting

@@ -67,7 +67,7 @@ pub struct Quotient {
 pub fn judge(k: &[u8]) -> Result<(), Fault>
     ensures { result ≡ judgement k.now }
 {
-    if k.len() == 0 {
+    if k.is_empty() {
         return Err(Fault {
             refusal: Refusal::EmptyKey,
             at: 0,
@@ -86,14 +86,12 @@ pub fn judge(k: &[u8]) -> Result<(), Fault>
             at,
         });
     }
-    if 1 < k.len() {
-        let last = k.len() - 1;
-        if k[last] == 48 {
-            return Err(Fault {
-                refusal: Refusal::OpenKey,
-                at: last,
-            });
-        }
+    let last = k.len() - 1;
+    if 1 < k.len() && k[last] == b'0' {
+        return Err(Fault {
+            refusal: Refusal::OpenKey,
+            at: last,
+        });
     }
     Ok(())
 }
@@ -105,33 +103,22 @@ pub fn take(b: Block, place: Place) -> Result<Option<Quotient>, Refusal>
     ensures { result ≡ taken_at (bits_of_block b) place }
 {
     let used = place.used;
-    let due = place.due;
     let w = words::window(b, used);
-    match due {
+    match place.due {
         Kind::Word => words::word(w),
-        Kind::Turned => {
-            if w != 0 {
-                return words::word(0xffff_ffff_ffff_ffff - w);
-            }
-            if used < 32 {
-                if words::window(b, used + 64) != 0 {
-                    return Err(Refusal::OutOfRange);
-                }
-            }
-            Ok(None)
-        }
+        Kind::Turned if w != 0 => words::word(!w),
+        Kind::Turned if used < 32 && words::window(b, used + 64) != 0 => Err(Refusal::OutOfRange),
+        Kind::Turned => Ok(None),
     }
 }
 
-// The word due at a place of a text, extended by zeros, read straight from its characters.
+// The word due at a place of a text, extended by zeros, read straight from its characters. Past the text there are none.
 pub fn take_text(k: &[u8], place: Place) -> Result<Option<Quotient>, Refusal>
     ensures { result ≡ taken_at (bits_of_text k.now) place }
 {
-    let used = place.used;
-    let due = place.due;
-    let at = texts::within(k, used);
-    match due {
-        Kind::Word => texts::word(&k[at..], false),
-        Kind::Turned => texts::word(&k[at..], true),
+    let rest = &k[place.used.min(k.len())..];
+    match place.due {
+        Kind::Word => texts::word(rest, false),
+        Kind::Turned => texts::word(rest, true),
     }
 }

@@ -1,40 +1,34 @@
 -- Each return cites the judgement's law for the tests that led there.
-use Rattle.std.proofs.Common.{arith}
-use Rattle.scan.specs.Verdicts.{
-  judged_empty,
-  judged_long,
-  judged_strange,
-  cleared,
-  judged_single,
-  judged_open,
-  judged-key,
-}
+use Rattle.std.proofs.Common.{sym, arith, eqb-true}
+use Rattle.std.proofs.lemmas.Bool.{eqb-false}
+use Rattle.scan.specs.Verdicts.{judged_empty, judged_long, judged_strange, Cleared, cleared, judged_single, judged_open, judged-key}
 use Rattle.scan.proofs.judge.Goals as goal
+use Rattle.scan.proofs.judge.Goals.{Else-at-k, else-k-gt1-via-then-k-gt1+else-k-last-eq48, else-k-gt1-via-else-k-gt1}
 
-pub returns-then-k-eq0 : goal.returns-then-k-eq0
-returns-then-k-eq0 c = judged_empty c.args.k.now c.if-k-eq0.true
+pub returns-then-is_empty : goal.returns-then-is_empty
+returns-then-is_empty c = judged_empty c.args.k.now (eqb-true _ _ (sym c.if-is_empty.ensures))
 
 pub returns-then-k-gt96 : goal.returns-then-k-gt96
-returns-then-k-gt96 c = judged_long c.args.k.now c.if-k-eq0.false (omega arith)
+returns-then-k-gt96 c = judged_long c.args.k.now (eqb-false _ _ (sym c.if-is_empty.ensures)) (omega arith)
 
 pub returns-then-at-k : goal.returns-then-at-k
 returns-then-at-k c =
-    judged_strange c.args.k.now c.if-k-eq0.false c.if-k-gt96.false c.first_strange-at.ensures c.if-at-k.true
+    judged_strange c.args.k.now (eqb-false _ _ (sym c.if-is_empty.ensures)) (omega arith) c.first_strange-at.ensures c.if-at-k.true
+
+-- only the last character is left to judge
+left : (c : Else-at-k) → Cleared c.args.k.now
+left c =
+    cleared c.args.k.now (eqb-false _ _ (sym c.if-is_empty.ensures)) (omega arith) c.first_strange-at.ensures c.if-at-k.false
 
 pub returns-then-k-last-eq48 : goal.returns-then-k-last-eq48
 returns-then-k-last-eq48 c =
-    let k = c.args.k.now in
-    judged_open k (cleared k c.if-k-eq0.false c.if-k-gt96.false c.first_strange-at.ensures c.if-at-k.false)
-    (omega arith) 0 c.if-k-last-eq48.true
+    judged_open c.args.k.now (left (goal.at.returns-then-k-last-eq48 c).Else-at-k) (omega arith) 0 (omega arith)
 
-pub returns-else-k-last-eq48 : goal.returns-else-k-last-eq48
-returns-else-k-last-eq48 c =
+pub returns : goal.returns
+returns c =
     let k = c.args.k.now in
-    judged-key k (cleared k c.if-k-eq0.false c.if-k-gt96.false c.first_strange-at.ensures c.if-at-k.false)
-    (omega arith) 0 c.if-k-last-eq48.false
-
-pub returns-else-k-gt1 : goal.returns-else-k-gt1
-returns-else-k-gt1 c =
-    let k = c.args.k.now in
-    judged_single k (cleared k c.if-k-eq0.false c.if-k-gt96.false c.first_strange-at.ensures c.if-at-k.false)
-    (omega arith)
+    elim c.else-k-gt1.branch [
+      | else-k-gt1-via-then-k-gt1+else-k-last-eq48 w ↦
+          judged-key k (left (goal.at.returns c).Else-at-k) (omega arith) 0 w.if-k-last-eq48.false
+      | else-k-gt1-via-else-k-gt1 w ↦ judged_single k (left (goal.at.returns c).Else-at-k) (omega arith)
+    ]

@@ -5,10 +5,7 @@ use Rattle.scan.proofs.Characters.{taken-lent}
 use Rattle.scan.proofs.take_text.Goals as goal
 
 pub returns-in-Word : goal.returns-in-Word
-returns-in-Word c =
-    c.word.ensures ∙ taken-lent _ c.args.place Word c.within-at.result c.in-Word.is c.within-at.ensures.1
+returns-in-Word c = c.word.ensures ∙ taken-lent _ c.args.place Word _ c.in-Word.is c.min.ensures
 
 pub returns-in-Turned : goal.returns-in-Turned
-returns-in-Turned c =
-    c.word-in-Turned.ensures
-    ∙ taken-lent _ c.args.place Turned c.within-at.result c.in-Turned.is c.within-at.ensures.1
+returns-in-Turned c = c.word-in-Turned.ensures ∙ taken-lent _ c.args.place Turned _ c.in-Turned.is c.min.ensures

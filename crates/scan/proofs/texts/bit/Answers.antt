@@ -1,7 +1,9 @@
 -- Within the text the character says the bit.
-use Rattle.std.proofs.Common.{sym}
-use Rattle.scan.proofs.Characters.{bit-read}
+use Rattle.std.proofs.Common.{rules}
+use Rattle.scan.proofs.Characters.{bit_got}
 use Rattle.scan.proofs.texts.bit.Goals as goal
 
 pub returns : goal.returns
-returns c = sym (bit-read c.args.k.now c.args.turned c.args.i)
+returns c =
+    bit_got c.args.k.now c.args.turned c.args.i c.get.result c.map_or.result c.get.ensures.lookup.3 c.map_or.ensures
+    (λ x h. search rules)

@@ -9,17 +9,17 @@ pub overflow_mul-v : goal.overflow_mul-v
 overflow_mul-v c =
     let s = bits_read c.args.k.now c.args.turned in
     let fits : c.loop-i.v < 2 ^ 31 =
-    digits_fit c.args.turned s c.args.run c.loop-i.i c.loop-i.invariant.1 (omega arith) in
+    digits_fit c.args.turned s c.args.run c.loop-i.i c.loop-i.invariant (omega arith) in
     omega arith
 
 pub overflow_add-v : goal.overflow_add-v
 overflow_add-v c =
     let s = bits_read c.args.k.now c.args.turned in
     let fits : c.loop-i.v < 2 ^ 31 =
-    digits_fit c.args.turned s c.args.run c.loop-i.i c.loop-i.invariant.1 (omega arith) in
-    omega (arith, byte-small c.bit.result)
+    digits_fit c.args.turned s c.args.run c.loop-i.i c.loop-i.invariant (omega arith) in
+    omega (arith, c.from.ensures, byte-small c.bit.result)
 
 pub loop-i-preserved : goal.loop-i-preserved
 loop-i-preserved c =
     let s = bits_read c.args.k.now c.args.turned in
-    (omega arith, digits-more c.args.turned s c.args.run c.loop-i.i c.loop-i.invariant.1 _ (omega arith) c.bit.ensures)
+    rw c.from.ensures (digits-more c.args.turned s c.args.run c.loop-i.i c.loop-i.invariant _ (omega arith) c.bit.ensures)

@@ -6,7 +6,7 @@ use Rattle.scan.proofs.Taking.{taken-ended}
 use Rattle.scan.specs.Characters.{bits_read}
 use Rattle.scan.proofs.Characters.{ended-after, run_long, run-word}
 use Rattle.scan.proofs.texts.word.Goals as goal
-use Rattle.scan.proofs.texts.word.Goals.{Joined-turned, then-turned+else-zeros_from, else-turned}
+use Rattle.scan.proofs.texts.word.Goals.{Joined-else-turned, else-turned-via-then-turned+else-zeros_from, else-turned-via-else-turned}
 
 pub returns-then-zeros_from : goal.returns-then-zeros_from
 returns-then-zeros_from c =
@@ -15,23 +15,23 @@ returns-then-zeros_from c =
     let zeros = ended-after k z c.run-r.result c.if-turned.true (omega arith) c.zeros_from.ensures in
     sym (taken-ended z (bits_read k z) (zeros ∙ c.if-zeros_from.true))
 
-going : (c : Joined-turned) → let z = c.args.turned in ended z (bits_read c.args.k.now z) ≡ false
+going : (c : Joined-else-turned) → let z = c.args.turned in ended z (bits_read c.args.k.now z) ≡ false
 going c =
     let k = c.args.k.now in
     let z = c.args.turned in
-    elim c.if-turned.branch [
-      | then-turned+else-zeros_from w ↦
+    elim c.else-turned.branch [
+      | else-turned-via-then-turned+else-zeros_from w ↦
           ended-after k z c.run-r.result w.if-turned.true (omega arith) w.zeros_from.ensures ∙ w.if-zeros_from.false
-      | else-turned w ↦ ap (λ (b : Bool). ended b (bits_read k b)) w.if-turned.false
+      | else-turned-via-else-turned w ↦ ap (λ (b : Bool). ended b (bits_read k b)) w.if-turned.false
     ]
 
 pub returns-then-r-gt31 : goal.returns-then-r-gt31
 returns-then-r-gt31 c =
     let z = c.args.turned in
-    run_long z (bits_read c.args.k.now z) (going (goal.at.returns-then-r-gt31 c).Joined-turned) c.run-r.ensures (omega arith)
+    run_long z (bits_read c.args.k.now z) (going (goal.at.returns-then-r-gt31 c).Joined-else-turned) c.run-r.ensures.ones (omega arith)
 
 pub returns : goal.returns
 returns c =
     let z = c.args.turned in
-    let goes = going (goal.at.returns c).Joined-turned in
-    rw c.number.ensures (run-word z (bits_read c.args.k.now z) goes c.run-r.ensures (omega arith))
+    let goes = going (goal.at.returns c).Joined-else-turned in
+    rw c.number.ensures (run-word z (bits_read c.args.k.now z) goes c.run-r.ensures.ones (omega arith))

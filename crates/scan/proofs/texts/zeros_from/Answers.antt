@@ -1,11 +1,17 @@
--- A 1 is no zero; any other character adds nothing to what is left.
-use Rattle.std.proofs.Common.{sym, ◌∙◌, arith}
-use Rattle.scan.proofs.Characters.{ones-more, ones_broken}
+-- No character from there on is a 1.
+use Rattle.std.specs.Prelude.{not, ◌-◌, eqb, length, take, drop}
+use Rattle.std.proofs.Common.{◌∙◌, rules, tests}
+use Rattle.std.proofs.lemmas.Iterator.{YieldsList-from_slice}
+use Rattle.std.proofs.lemmas.Iterator.Search.{all_from_yields_List}
+use Rattle.bits.proofs.Memory.{lent_part}
+use Rattle.scan.proofs.Characters.{zeros_are}
 use Rattle.scan.proofs.texts.zeros_from.Goals as goal
 
-pub returns-then-k-i-eq49 : goal.returns-then-k-i-eq49
-returns-then-k-i-eq49 c =
-    sym (c.loop-i.invariant ∙ ones_broken c.args.k.now c.loop-i.i (omega arith) (omega arith))
-
-pub loop-i-preserved : goal.loop-i-preserved
-loop-i-preserved c = c.loop-i.invariant ∙ ones-more c.args.k.now c.loop-i.i (omega arith) (λ e. omega arith)
+pub returns : goal.returns
+returns c =
+    let k = c.args.k.now in
+    let at = c.args.at in
+    let found =
+    all_from_yields_List (λ b. not (eqb b 49)) _ _ c.all.result c.all.ensures.ran
+    (YieldsList-from_slice (take (length k - at) (drop at k)) cc) (λ x b q h. search (rules, tests)) in
+    (rw lent_part at found) ∙ zeros_are at k
