@@ -1,13 +1,14 @@
 -- Numbers as bytes, top byte first, and the bytes of a block's bits as those of its two words.
-use Rattle.std.specs.Prelude.{◌≡◌, refl, false, List, [], ◌∷◌, ◌++◌, ℕ, zero, suc, ◌+◌, ◌*◌, ◌/◌, ◌%◌, ◌^◌, ◌≤◌, ◌<◌, ◌-◌, length, take, drop}
-use Rattle.std.proofs.Common.{sym, ◌∙◌, ap, ap₂, zero-add, suc-add, pow-suc, arith, pow-add, length-drop}
+use Rattle.std.specs.Prelude.{◌≡◌, refl, false, List, [], ◌∷◌, ◌++◌, ℕ, zero, suc, ◌+◌, ◌*◌, ◌/◌, ◌%◌, ◌^◌, ◌≤◌, ◌<◌, length, take, drop}
+use Rattle.std.specs.Int.{w32, w64, to_be_bytes, bytes_high_first}
+use Rattle.std.proofs.Common.{div-one, sym, ◌∙◌, ap, ap₂, zero-add, suc-add, pow-suc, arith, pow-add, length-drop}
 use Rattle.std.proofs.Math.Arith.{digits_div, digits_mod}
 use Rattle.std.proofs.lemmas.List.{drop-append-le}
 use Rattle.bits.specs.Strings.{Bits}
 use Rattle.bits.specs.Binary.{number_from, number_of, first_bits, bytes_of, digits_in}
 use Rattle.bits.specs.Texts.{in_front}
 use Rattle.bits.proofs.Numbers.{number_from_lem, number-append, number-lt}
-use Rattle.bits.proofs.Memory.{front-more, lent_back}
+use Rattle.bits.proofs.Memory.{front-more}
 use Rattle.bits.proofs.Pieces.{length-first, first-before, first-rest, length-digits, number_of-digits}
 use Rattle.blocks.specs.declared.Block.{Block}
 use Rattle.blocks.specs.Blocks.{bits_of_block}
@@ -16,6 +17,13 @@ use Rattle.blocks.specs.Blocks.{bits_of_block}
 unfoldable pub bytes_in : ℕ → ℕ → List ℕ
 bytes_in zero v = []
 bytes_in (suc n) v = v / 256 ^ n % 256 ∷ bytes_in n v
+
+-- as the library's methods have them
+pub bytes-high : (n v : ℕ) → bytes_high_first n v ≡ bytes_in n v
+unfolding bytes_in
+bytes-high zero v = refl
+bytes-high (suc zero) v = rw div-one
+bytes-high (suc (suc n)) v = ap {B = List ℕ} (λ l. v / 256 ^ suc n % 256 ∷ l) (bytes-high (suc n) v)
 
 length-bytes : (n v : ℕ) → length (bytes_in n v) ≡ n
 unfolding bytes_in
@@ -76,13 +84,13 @@ block-bytes b h l =
     (rw (number_of-digits 64 b.high h) at (bytes-from 8 0 s long))
     (rw (number_of-digits 32 b.low l) at (bytes-from 4 0 t short))
 
--- the two words put out, the low one at the front of what was lent behind the first eight bytes
+-- the two words put out one behind the other
 pub words-front : (b : Block) (m : List ℕ) {xs ys : List ℕ} → b.high < 2 ^ 64 → b.low < 2 ^ 32
-    → xs ≡ in_front (bytes_in 8 b.high) m → ys ≡ in_front (bytes_in 4 b.low) (take (length xs - 8) (drop 8 xs))
-    → take 8 xs ++ (ys ++ drop (length xs - 8) (drop 8 xs)) ≡ in_front (bytes_of 12 (bits_of_block b)) m
-words-front b m {xs} h l d e =
+    → xs ≡ to_be_bytes w64 b.high → ys ≡ to_be_bytes w32 b.low
+    → take 8 (xs ++ drop 8 m) ++ (ys ++ drop 4 (drop 8 (xs ++ drop 8 m))) ≡ in_front (bytes_of 12 (bits_of_block b)) m
+words-front b m {xs} {ys} h l d e =
     let first = bytes_in 8 b.high in
     let second = bytes_in 4 b.low in
-    lent_back second xs 8 e
-    ∙ rw d (front-more first second m 8 (length-bytes 8 b.high))
+    rw (d ∙ bytes-high 8 b.high, e ∙ bytes-high 4 b.low)
+    (rw (length-bytes 8 b.high, length-bytes 4 b.low) at (front-more first second m 8 (length-bytes 8 b.high)))
     ∙ ap (λ (t : List ℕ). in_front t m) (sym (block-bytes b h l))

@@ -10,7 +10,6 @@ ghost use Rattle.put.specs.Putting.{text_put, column_put, decimal_put};
 use blocks::Block;
 use refusals::Refusal;
 
-mod column;
 mod decimal;
 mod text;
 
@@ -56,11 +55,9 @@ pub fn put_column(b: Block, out: &mut [u8]) -> Result<usize, Refusal>
     if out.len() < 12 {
         return Err(Refusal::WrongSize);
     }
-    let high = b.high;
-    let low = b.low;
-    column::put_high(out, high);
+    out[..8].copy_from_slice(&b.high.to_be_bytes());
     let n = characters_of(b);
-    column::put_low(&mut out[8..], low);
+    out[8..12].copy_from_slice(&b.low.to_be_bytes());
     Ok(n)
 }
 

@@ -1,6 +1,6 @@
 -- Too short a buffer is left as it is. Else the words are put out one behind the other, and the characters counted.
 use Rattle.std.specs.Prelude.{Result, Ok}
-use Rattle.std.proofs.Common.{ap₂, List, ℕ, length, arith, rules}
+use Rattle.std.proofs.Common.{ap₂, ◌∙◌, List, ℕ, length, arith, rules}
 use borrow.Author.Tests.{le-ltb}
 use Rattle.refusals.specs.declared.Refusal.{Refusal}
 use Rattle.put.specs.Putting.{column_put}
@@ -13,4 +13,5 @@ returns c =
     let out = c.args.out.now in
     rw (le-ltb (length out) 12 (omega arith))
     (ap₂ {C = Result ℕ Refusal × List ℕ} (λ n l. (Ok n, l)) c.characters_of-n.ensures
-    (words-front c.args.b out (search rules) (search rules) c.put_high.ensures c.put_low.ensures))
+    (words-front c.args.b out (search rules) (search rules) (c.copy_from_slice.ensures.after ∙ c.to_be_bytes.ensures)
+    (c.copy_from_slice-2.ensures.after ∙ c.to_be_bytes-2.ensures)))

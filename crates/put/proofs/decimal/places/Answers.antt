@@ -1,19 +1,16 @@
--- The tests that lead to a return put the number between two powers of ten. The call counts up to five digits.
-use Rattle.std.proofs.Common.{arith}
+-- The logarithm puts the number, or 1 where it is 0, between two powers of ten.
+use Rattle.std.proofs.Common.{◌≡◌, ◌≤◌, ◌-◌, ◌^◌, ◌<◌, suc, arith, pow-suc}
+use Rattle.std.proofs.Math.Nat.{one-le-pow}
 use Rattle.numerals.proofs.Laws.{decimal_length}
 use Rattle.put.proofs.decimal.places.Goals as goal
 
-pub returns-then-n-lt1000000 : goal.returns-then-n-lt1000000
-returns-then-n-lt1000000 c = decimal_length 5 _ (omega arith) (omega arith)
-
-pub returns-then-n-lt10000000 : goal.returns-then-n-lt10000000
-returns-then-n-lt10000000 c = decimal_length 6 _ (omega arith) (omega arith)
-
-pub returns-then-n-lt100000000 : goal.returns-then-n-lt100000000
-returns-then-n-lt100000000 c = decimal_length 7 _ (omega arith) (omega arith)
-
-pub returns-then-n-lt1000000000 : goal.returns-then-n-lt1000000000
-returns-then-n-lt1000000000 c = decimal_length 8 _ (omega arith) (omega arith)
-
-pub returns-else-n-lt1000000000 : goal.returns-else-n-lt1000000000
-returns-else-n-lt1000000000 c = decimal_length 9 _ (omega arith) (omega arith)
+pub returns : goal.returns
+returns c =
+    let k = c.ilog10.result in
+    let n = c.args.n in
+    let below : n < 10 ^ suc k = rw pow-suc (omega arith) in
+    let from : 1 ≤ k → 10 ^ k ≤ n =
+    λ some.
+    let before : suc (k - 1) ≡ k = omega arith in
+    omega (arith, one-le-pow (k - 1) 10 (omega arith), rw before at (pow-suc 10 (k - 1))) in
+    omega (arith, decimal_length k n from below)

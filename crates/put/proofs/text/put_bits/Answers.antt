@@ -1,26 +1,25 @@
--- A turn puts out eight bits: the part that was lent has come back with their characters at its front. Behind the loop
--- all are put out, or the last eight go over some that are.
-use Rattle.std.proofs.Common.{◌≡◌, ◌∙◌, ◌+◌, ◌-◌, refl, arith}
-use Rattle.bits.proofs.Memory.{lent_back}
-use Rattle.blocks.specs.Bytewise.{low_bytes}
-use Rattle.put.specs.Piecewise.{put_none, put-more, put_last}
+-- A turn puts out one group more. Behind the loop all are put out, or the last eight characters go over some that are.
+use Rattle.std.proofs.Common.{◌≡◌, ◌∙◌, ◌+◌, ◌-◌, ◌*◌, arith}
+use Rattle.bits.specs.Binary.{digits_in}
+use Rattle.bits.proofs.Pieces.{length-digits}
+use Rattle.put.specs.Piecewise.{text-more, put_last}
 use Rattle.put.proofs.text.put_bits.Goals as goal
 
-pub loop-at-init : goal.loop-at-init
-loop-at-init c = (omega arith, put_none c.args.word c.args.out.now c.ranges.word.fits)
+pub loop-group-preserved : goal.loop-group-preserved
+loop-group-preserved c =
+    let word = c.args.word in
+    let group = c.loop-group.group in
+    let next : 8 * group + 8 ≡ 8 * (group + 1) = omega arith in
+    c.put_eight.ensures
+    ∙ rw (c.loop-group.invariant, ← next)
+    (text-more (digits_in 64 word) (8 * group) 8 c.args.out.now (omega (arith, length-digits 64 word)))
 
-pub loop-at-preserved : goal.loop-at-preserved
-loop-at-preserved c =
-    let here = c.loop-at in
-    let bytes = low_bytes 8 c.spread.result in (
-      omega arith,
-      rw (lent_back bytes here.out here.at c.put_eight.ensures)
-          (put-more here.invariant.1 8 56 bytes refl (omega arith) (omega arith) c.spread.ensures),
-    )
-
-pub returns-then-at-count : goal.returns-then-at-count
-returns-then-at-count c =
+pub returns-then-count-gt0 : goal.returns-then-count-gt0
+returns-then-count-gt0 c =
     let count = c.args.count in
     let whole : count - 8 + 8 ≡ count = omega arith in
-    c.put_last.ensures
-    ∙ rw whole at (put_last c.loop-at.invariant.1 (count - 8) 8 (omega arith) (omega arith) (omega arith))
+    let long = length-digits 64 c.args.word in
+    c.put_eight-then-count-gt0.ensures
+    ∙ rw whole at
+    (put_last (digits_in 64 c.args.word) c.args.out.now (8 * c.loop-group.group) (count - 8) 8 c.loop-group.invariant
+    (omega arith) (omega arith) (omega arith))

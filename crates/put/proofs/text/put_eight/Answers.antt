@@ -1,13 +1,9 @@
--- The eight stores are the bytes of the number, lowest first, put in front.
-use Rattle.std.proofs.Common.{sym, ap, ◌∙◌}
-use Rattle.std.proofs.lemmas.List.Edits.{sets}
-use Rattle.bits.proofs.Memory.{stored-front}
-use Rattle.blocks.specs.Bytewise.{low_bytes}
-use Rattle.blocks.proofs.Bytewise.{length_low, eight-bytes}
+-- The eight characters stand in the place of the bytes that were there.
+use Rattle.std.proofs.Common.{◌∙◌}
+use Rattle.put.specs.Piecewise.{eight-put}
 use Rattle.put.proofs.text.put_eight.Goals as goal
 
 pub returns : goal.returns
 returns c =
-    let m = c.args.out.now in
-    let y = c.args.y in
-    ap (sets m 0) (sym (eight-bytes y)) ∙ stored-front (low_bytes 8 y) m (rw length_low c.requires)
+    eight-put c.args.word c.ranges.word.fits c.args.at c.args.out.now c.requires.0
+    (c.copy_from_slice.ensures.after ∙ c.spread.ensures)
