@@ -1,21 +1,20 @@
 -- What taking out answers, by what seeking and storing gave.
-use Rattle.std.specs.Prelude.{◌≡◌, refl, false, List, [], ◌∷◌, ◌++◌, ℕ, ◌-◌, ◌≤◌, ◌<◌, eqb, Ok}
+use Rattle.std.specs.Prelude.{◌≡◌, refl, false, List, [], ◌∷◌, ℕ, ◌-◌, ◌≤◌, ◌<◌, eqb, Ok}
 use Rattle.std.proofs.Common.{◌∙◌, arith, lt-ltb, le-ltb, eq-eqb, ne_eqb}
 use Rattle.bits.specs.Texts.{Bytes}
 use Rattle.fractions.specs.declared.Fraction.{Fraction}
 use Rattle.tables.specs.declared.Row.{Row}
 use Rattle.tables.specs.Layouts.{stock_rows}
-use Rattle.tables.specs.Rows.{row_size, room_of, rows_in}
-use Rattle.tables.specs.Stocks.{with_quantity, held_of, drawn}
+use Rattle.tables.specs.Rows.{row_size, rows_in}
+use Rattle.tables.specs.Stocks.{with_quantity}
 use Rattle.tables.specs.Moves.{put_at, removed_at}
 use Rattle.outcomes.specs.Outcomes.{Outcome, gives, refuses}
-use Rattle.outcomes.specs.Laws.{Clear}
-use Rattle.outcomes.specs.Stocking.{take_out, stock_refusals, stock_call}
+use Rattle.outcomes.specs.Stocking.{take_out, stock_call}
 use Rattle.seek.specs.declared.Sought.{Sought}
 use Rattle.seek.specs.declared.Sought.TheVariants.{Here, Absent}
 use Rattle.seek.specs.Seeking.{sought}
-use Rattle.seek.specs.Callers.{told-here, told-absent, told-given}
-use Rattle.seek.proofs.Changing.{told-rest, row-put, row-removed}
+use Rattle.seek.specs.Callers.{told-here, told-absent, told-rest}
+use Rattle.seek.proofs.Changing.{holds-some, row-put, row-removed}
 
 module _ (used p q n : ℕ) (m : List ℕ) where
   abbrev rows : List Row
@@ -40,33 +39,37 @@ module _ (used p q n : ℕ) (m : List ℕ) where
       pub take_few : r.quantity < n → refuses 14 3 m ≡ whole
       take_few k =
           let (fine, (h, rest)) = told-here used p q m (take_out p q n) refl e in
-          rw (counts, h.held, ne_eqb r.quantity 0 (λ z. omega (arith, h.some)), lt-ltb r.quantity n k) at rest
+          rw (counts, h.held, holds-some used p q m h, lt-ltb r.quantity n k) at rest
 
-      clear : n ≤ r.quantity → held_of p q rows ≡ r.quantity
-          → Clear (stock_refusals (room_of stock_rows m) rows (take_out p q n))
-      clear k e = (
-        counts,
-        (rw e (ne_eqb r.quantity 0 (λ z. omega arith)), (rw e (le-ltb r.quantity n k), tt)),
-      )
-
-      module _ (small : Bytes m) {k : ℕ} (rest_of : (n ≤ r.quantity) × (k ≡ r.quantity - n)) where
+      module _ (small : Bytes m) {k : ℕ} (left : (n ≤ r.quantity) × (k ≡ r.quantity - n)) where
         pub take-some : 1 ≤ k → {l : List ℕ} → l ≡ put_at stock_rows i (with_quantity k r) m
             → gives (used ∷ i ∷ k ∷ []) l ≡ whole
-        take-some left f =
+        take-some more f =
             let (fine, (h, rest)) = told-here used p q m (take_out p q n) refl e in
-            let x = with_quantity (r.quantity - n) r in
-            let (size, memory) = row-put used p q m fine small h x in
-            let less : drawn p q n rows ≡ h.before ++ (x ∷ h.behind) =
-            h.less n ∙ rw (lt-ltb n r.quantity (omega arith)) in
-            told-given used p q m (take_out p q n) refl (clear rest_of.0 h.held) rest
-            (rw (rest_of.1, h.place, h.held, less, size)) (rw less ((rw rest_of.1 at f) ∙ memory))
+            rw (f, left.1)
+            (row-put used p q m fine small _ h (with_quantity (r.quantity - n) r)
+            ∙ rw (
+              counts,
+              h.held,
+              holds-some used p q m h,
+              le-ltb r.quantity n left.0,
+              h.place,
+              h.less n,
+              lt-ltb n r.quantity (omega arith),
+            ) at rest)
 
         pub take-all : k ≡ 0 → {l : List ℕ} → l ≡ removed_at stock_rows i used m
             → gives ((used - 1) ∷ i ∷ k ∷ []) l ≡ whole
         take-all none f =
             let (fine, (h, rest)) = told-here used p q m (take_out p q n) refl e in
-            let (size, memory) = row-removed used p q m fine small h in
-            let less : drawn p q n rows ≡ h.before ++ h.behind =
-            h.less n ∙ rw (le-ltb n r.quantity (omega arith)) in
-            told-given used p q m (take_out p q n) refl (clear rest_of.0 h.held) rest
-            (rw (rest_of.1, h.place, h.held, less, size)) (rw less (f ∙ memory))
+            rw (f, left.1)
+            (row-removed used p q m fine small _ h
+            ∙ rw (
+              counts,
+              h.held,
+              holds-some used p q m h,
+              le-ltb r.quantity n left.0,
+              h.place,
+              h.less n,
+              le-ltb n r.quantity (omega arith),
+            ) at rest)

@@ -1,6 +1,6 @@
 -- What finding and listing answer, by what seeking gave.
 use Rattle.std.specs.Prelude.{◌≡◌, refl, List, [], ◌∷◌, ℕ, ◌≤◌, ◌<◌, length, drop, Option, Result, Ok, Err, IsErrAnd}
-use Rattle.std.proofs.Common.{◌∙◌, arith, eq-eqb, ne_eqb}
+use Rattle.std.proofs.Common.{◌∙◌, arith, eq-eqb}
 use Rattle.fractions.specs.declared.Fraction.{Fraction}
 use Rattle.tables.specs.declared.Row.{Row}
 use Rattle.tables.specs.Layouts.{stock_rows}
@@ -17,6 +17,7 @@ use Rattle.seek.specs.declared.Sought.{Sought}
 use Rattle.seek.specs.declared.Sought.TheVariants.{Here, Absent}
 use Rattle.seek.specs.Seeking.{sought}
 use Rattle.seek.specs.Callers.{told_on, told-here, told-absent}
+use Rattle.seek.proofs.Changing.{holds-some}
 use Rattle.lookup.specs.declared.Listed.{Listed}
 use Rattle.lookup.specs.Answers.{listed_as}
 use Rattle.lookup.specs.Places.{place_of}
@@ -33,7 +34,7 @@ module _ (used p q : ℕ) (m : List ℕ) where
       → gives (i ∷ r.quantity ∷ []) m ≡ stock_call stock_rows (find p q) used m
   find-here {i} {r} e =
       let (fine, (h, rest)) = told-here used p q m (find p q) refl e in
-      rw (h.place, h.held, ne_eqb r.quantity 0 (λ z. omega (arith, h.some))) at rest
+      rw (h.place, h.held, holds-some used p q m h) at rest
 
   pub find-absent : {i : ℕ} {v : Fraction} → Ok (Absent i v) ≡ sought used p q m
       → refuses 12 2 m ≡ stock_call stock_rows (find p q) used m
@@ -64,7 +65,12 @@ module _ (used p q : ℕ) (m : List ℕ) where
     list-row i same h r g =
         let (within, rest) = placed s e in
         let there = g ∙ row_at_lem stock_rows i m (omega arith) in
-        rw (← same, rows-drop (row_size stock_rows) used i m, rows-next (row_size stock_rows) m used i h, ← there) at rest
+        rw (
+          ← same,
+          rows-drop (row_size stock_rows) used i m,
+          rows-next (row_size stock_rows) m used i h,
+          ← there,
+        ) at rest
 
     pub list_none : (i : ℕ) → i ≡ place_of s → used ≤ i
         → gives (0 ∷ 0 ∷ 0 ∷ 0 ∷ 0 ∷ []) m ≡ stock_call stock_rows (list_from p q) used m

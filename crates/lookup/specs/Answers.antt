@@ -1,5 +1,5 @@
 -- The values of what finding and listing give, and what values tell.
-use Rattle.std.specs.Prelude.{◌≡◌, cond, List, [], ◌∷◌, ℕ, eqb, get_or, Option, Some, None}
+use Rattle.std.specs.Prelude.{cond, List, [], ◌∷◌, ℕ, eqb, get_or, Option, Some, None}
 use Rattle.tables.specs.declared.Row.{Row}
 use Rattle.lookup.specs.declared.Found.{Found}
 use Rattle.lookup.specs.declared.Listed.{Listed}

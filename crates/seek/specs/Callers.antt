@@ -1,10 +1,11 @@
 -- What seeking p/q tells a call of the table: its outcome where table or ratio have a fault, and else the rows in parts
 -- and that the rest of its refusals decide. A call that seeks by `?` cites `told_on` at the exit, with
--- `c.in_err-NAME.ensures` and `c.from_residual.ensures.1`; behind the `?`, an arm's own `.ensures` is what `told-here` and
--- `told-absent` take.
-use Rattle.std.specs.Prelude.{◌≡◌, Bool, true, false, cond, not, ◌&&◌, ◌||◌, List, [], ◌∷◌, eqb, ltb, length, drop, Result, Ok, Err}
+-- `c.in_err-NAME.ensures` and `c.from_residual.ensures.1`; behind the `?`, `told-here` and `told-absent` take
+-- `c.in_ok-NAME.ensures`, rewritten by the arm's `.is`.
+use Rattle.std.specs.Prelude.{◌≡◌, Bool, true, false, cond, not, ◌&&◌, ◌||◌, List, [], ◌∷◌, eqb, ltb, length, drop}
+use Rattle.std.specs.Prelude.{Result, Ok, Err}
 use Rattle.std.proofs.Math.Path.{refl}
-use Rattle.std.proofs.Common.{sym, ◌∙◌, ap, arith, ltb-false, eq-eqb, ne_eqb, drop_at}
+use Rattle.std.proofs.Common.{◌∙◌, ap, arith, ltb-false, eq-eqb, ne_eqb, drop_at}
 use Prim.Native.Nat.{ℕ, ◌*◌, ◌≤◌, ◌<◌}
 use Rattle.std.proofs.lemmas.Bool.{eqb-false}
 use Rattle.std.specs.Result.{IsErrAnd}
@@ -18,9 +19,7 @@ use Rattle.tables.proofs.Moved.{count}
 use Rattle.tables.specs.Order.{Above}
 use Rattle.tables.proofs.Order.{sound_facts}
 use Rattle.tables.proofs.Parts.{Here as Found, Absent as Missing, Parted, here, absent, parted}
-use Rattle.outcomes.specs.Outcomes.{Outcome, leaves, gives, refuses, called}
-use Rattle.outcomes.specs.Laws.{Clear}
-use Rattle.outcomes.proofs.Laws.{clear-called}
+use Rattle.outcomes.specs.Outcomes.{Outcome, leaves, refuses, called}
 use Rattle.outcomes.specs.Stocking.{wrong_table, Call, find, denominator_of}
 use Rattle.outcomes.specs.Stocking.{stock_refusals, stock_values, stock_memory, stock_call}
 use Rattle.judge.specs.Callers.{Fine}
@@ -100,7 +99,8 @@ module _ (used p q : ℕ) (m : List ℕ) where
             told_place (record { within = ltb-false (room_of stock_rows m) used a; rows = b; fits = d })
             (parted p q rows (omega (arith, eqb-false q 0 c)) (sound_facts rows b))
 
-    pub told_refused : {e : reasons.Refusal} → Err e ≡ sought used p q m → refuses (number_of e) (length values) m ≡ whole
+    pub told_refused : {e : reasons.Refusal} → Err e ≡ sought used p q m
+        → refuses (number_of e) (length values) m ≡ whole
     told_refused {e} h = told (Err e) h
 
     -- the same of a result r that a `?` hands on
@@ -118,13 +118,10 @@ module _ (used p q : ℕ) (m : List ℕ) where
         × (Missing p q rows i × (((f.numerator over f.denominator) ≡ lowest_terms p q) × (rest ≡ whole)))
     told-absent {i} {f} h = told (Ok (Absent i f)) h
 
-    -- nothing is left to refuse
-    pub told-given : {v l : List ℕ} → Clear (stock_refusals (room_of stock_rows m) rows c) → rest ≡ whole → v ≡ values
-        → l ≡ stock_memory stock_rows rows c m → gives v l ≡ whole
-    told-given clear e f g =
-        (λ i. gives (f i) (g i))
-        ∙ sym (clear-called (stock_refusals (room_of stock_rows m) rows c) values m (stock_memory stock_rows rows c m) clear)
-        ∙ e
+    -- wherever the ratio stands
+    pub told-rest : (s : Sought) → Ok s ≡ sought used p q m → rest ≡ whole
+    told-rest (Here i r) h = (told-here h).1.1
+    told-rest (Absent i f) h = (told-absent h).1.1.1
 
   -- the place is within the used rows, and these within the room
   pub here-within : {i : ℕ} {r : Row} → Ok (Here i r) ≡ sought used p q m

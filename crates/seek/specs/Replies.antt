@@ -58,7 +58,8 @@ module _ (used p q : ℕ) (m : List ℕ) where
       sought-zero {e} h =
           rw (zero-spells p q h) (told-zero p q (Err ZeroDenominator) (Ok (sought_at p q i (drop i rows))) h ∙ whole)
 
-      module _ (small : Bytes m) (a : p ≤ limit) (b : q ≤ limit) {s : Spelled} (e : Ok s ≡ spelling p q) (same : k ≡ s.block) where
+      module _ (small : Bytes m) (a : p ≤ limit) (b : q ≤ limit) {s : Spelled} (e : Ok s ≡ spelling p q)
+          (same : k ≡ s.block) where
         spells : Spells p q s
         spells = key-spells p q e
 

@@ -7,18 +7,17 @@ use Rattle.fractions.specs.declared.Fraction.{Fraction}
 use Rattle.keys.specs.Size.{limit}
 use Rattle.tables.specs.declared.Row.{Row}
 use Rattle.tables.specs.Layouts.{stock_rows}
-use Rattle.tables.specs.Rows.{row_size, room_of, rows_in}
+use Rattle.tables.specs.Rows.{row_size, rows_in}
 use Rattle.tables.specs.Stocks.{row_for, with_quantity}
 use Rattle.tables.specs.Moves.{put_at, inserted_at}
 use Rattle.tables.proofs.Tables.{length-rows}
 use Rattle.outcomes.specs.Outcomes.{Outcome, gives, refuses}
-use Rattle.outcomes.specs.Laws.{Clear}
-use Rattle.outcomes.specs.Stocking.{put_in, stock_refusals, stock_call}
+use Rattle.outcomes.specs.Stocking.{put_in, stock_call}
 use Rattle.seek.specs.declared.Sought.{Sought}
 use Rattle.seek.specs.declared.Sought.TheVariants.{Here, Absent}
 use Rattle.seek.specs.Seeking.{sought}
-use Rattle.seek.specs.Callers.{told-here, told-absent, told-given}
-use Rattle.seek.proofs.Changing.{told-rest, row-put, row-inserted}
+use Rattle.seek.specs.Callers.{told-here, told-absent, told-rest}
+use Rattle.seek.proofs.Changing.{holds-some, row-put, row-inserted}
 
 module _ (used p q n : ℕ) (m : List ℕ) where
   abbrev rows : List Row
@@ -45,42 +44,42 @@ module _ (used p q n : ℕ) (m : List ℕ) where
           → l ≡ put_at stock_rows i (with_quantity k r) m → gives (used ∷ i ∷ k ∷ []) l ≡ whole
       put-more small (few, sum) f =
           let (fine, (h, rest)) = told-here used p q m (put_in p q n) refl e in
-          let (size, memory) = row-put used p q m fine small h (with_quantity (r.quantity + n) r) in
-          let clear : Clear (stock_refusals (room_of stock_rows m) rows (put_in p q n)) = (
+          rw (f, sum)
+          (row-put used p q m fine small _ h (with_quantity (r.quantity + n) r)
+          ∙ rw (
             counts,
-            (
-              rw h.held (le-ltb limit (r.quantity + n) few),
-              (rw (h.held, ne_eqb r.quantity 0 (λ z. omega (arith, h.some))), tt),
-            ),
-          ) in
-          told-given used p q m (put_in p q n) refl clear rest (rw (sum, h.place, h.held, h.more n, size))
-          (rw (h.more n) ((rw sum at f) ∙ memory))
+            h.held,
+            le-ltb limit (r.quantity + n) few,
+            holds-some used p q m h,
+            h.place,
+            h.more n,
+          ) at rest)
 
     -- to a ratio that has no row
     module _ (most : n ≤ limit) {i : ℕ} {v : Fraction} (e : Ok (Absent i v) ≡ sought used p q m) where
+      abbrev new : Row
+      new = record { numerator = v.numerator; denominator = v.denominator; quantity = n }
+
       pub new_full : used ≡ length m / 12 → refuses 11 3 m ≡ whole
       new_full k =
           let (fine, (h, (lowest, rest))) = told-absent used p q m (put_in p q n) refl e in
           rw (counts, h.held, le-ltb limit (0 + n) (omega arith), length-rows, eq-eqb used (length m / 12) k) at rest
 
       pub new_row : Bytes m → (used ≡ length m / 12 → ⊥) → {l : List ℕ}
-          → l ≡ inserted_at stock_rows i used (record { numerator = v.numerator; denominator = v.denominator; quantity = n }) m
-          → gives ((used + 1) ∷ i ∷ n ∷ []) l ≡ whole
+          → l ≡ inserted_at stock_rows i used new m → gives ((used + 1) ∷ i ∷ n ∷ []) l ≡ whole
       new_row small free f =
           let (fine, (h, (lowest, rest))) = told-absent used p q m (put_in p q n) refl e in
-          let (size, memory) =
-          row-inserted used p q m fine small h (omega (arith, fine.within, free)) (row_for p q n) in
-          let row : ◌≡◌ {A = Row} (record { numerator = v.numerator; denominator = v.denominator; quantity = n })
-          (row_for p q n) =
-          ap (λ (v : Ratio). record { numerator = v.num; denominator = v.den; quantity = n }) lowest in
+          let row : new ≡ row_for p q n =
+          ap (λ (x : Ratio). record { numerator = x.num; denominator = x.den; quantity = n }) lowest in
           let none : 0 + n ≡ n = omega arith in
-          let less : length rows ≡ length m / 12 → ⊥ = λ z. free (sym (length-rows (row_size stock_rows) used m) ∙ z) in
-          let clear : Clear (stock_refusals (room_of stock_rows m) rows (put_in p q n)) = (
+          rw (f, row)
+          (row-inserted used p q m fine small _ h (omega (arith, fine.within, free)) (row_for p q n)
+          ∙ rw (
             counts,
-            (
-              rw h.held (le-ltb limit (0 + n) (omega arith)),
-              (rw h.held (ne_eqb (length rows) (length m / 12) less), tt),
-            ),
-          ) in
-          told-given used p q m (put_in p q n) refl clear rest (rw (h.place, h.held, h.more n, size, none))
-          (rw (h.more n) (f ∙ ap (λ (z : Row). inserted_at stock_rows i used z m) row ∙ memory))
+            h.held,
+            none,
+            le-ltb limit n most,
+            ne_eqb (length rows) (length m / 12) (λ z. free (sym (length-rows (row_size stock_rows) used m) ∙ z)),
+            h.place,
+            h.more n,
+          ) at rest)

@@ -1,6 +1,5 @@
 -- Each way is what seeking and storing gave, by `proofs/Taking.antt`.
 use Rattle.std.proofs.Common.{refl, ◌∙◌, rules, arith}
-use Rattle.bits.specs.Texts.{Bytes}
 use Rattle.outcomes.specs.Stocking.{take_out}
 use Rattle.seek.specs.Answers.{stocked_as}
 use Rattle.seek.specs.Callers.{told_on, here-within}
@@ -33,12 +32,10 @@ overflow_sub-result c =
 
 pub returns-then-quantity-eq0 : goal.returns-then-quantity-eq0
 returns-then-quantity-eq0 c =
-    let bytes : Bytes c.args.table.now = λ i. search rules in
-    take-all _ _ _ _ _ (omega arith) (rw c.in-Here.is at c.in_ok-sought.ensures) bytes
+    take-all _ _ _ _ _ (omega arith) (rw c.in-Here.is at c.in_ok-sought.ensures) (λ i. search rules)
     (rw c.in_ok-quantity.ensures.ok_part at c.checked_sub.ensures) (omega arith) c.remove.ensures
 
 pub returns : goal.returns
 returns c =
-    let bytes : Bytes c.args.table.now = λ i. search rules in
-    take-some _ _ _ _ _ (omega arith) (rw c.in-Here.is at c.in_ok-sought.ensures) bytes
+    take-some _ _ _ _ _ (omega arith) (rw c.in-Here.is at c.in_ok-sought.ensures) (λ i. search rules)
     (rw c.in_ok-quantity.ensures.ok_part at c.checked_sub.ensures) (omega arith) c.put.ensures

@@ -1,7 +1,5 @@
 -- Each way is what seeking and storing gave, by `proofs/Putting.antt`.
-use Rattle.std.proofs.Common.{◌≡◌, refl, ◌∙◌, ◌+◌, ◌≤◌, ap, rules, arith}
-use Rattle.bits.specs.Texts.{Bytes}
-use Rattle.keys.specs.Size.{limit}
+use Rattle.std.proofs.Common.{refl, ◌∙◌, rules, arith}
 use Rattle.outcomes.specs.Stocking.{put_in}
 use Rattle.seek.specs.Answers.{stocked_as}
 use Rattle.seek.specs.Callers.{told_on, absent-within}
@@ -26,9 +24,9 @@ returns-in_err-quantity-in-Here c =
 
 pub returns-in_ok-quantity-in-Here : goal.returns-in_ok-quantity-in-Here
 returns-in_ok-quantity-in-Here c =
-    let bytes : Bytes c.args.table.now = λ i. search rules in
     let sum = rw c.in_ok-quantity-in-Here.ensures.ok_part at c.checked_add.ensures in
-    put-more _ _ _ _ _ (omega arith) (rw c.in-Here.is at c.in_ok-sought.ensures) bytes (omega arith, sum.1) c.put.ensures
+    put-more _ _ _ _ _ (omega arith) (rw c.in-Here.is at c.in_ok-sought.ensures) (λ i. search rules)
+    (omega arith, sum.1) c.put.ensures
 
 -- to a ratio that has no row
 pub returns-then-used-table : goal.returns-then-used-table
@@ -42,6 +40,5 @@ overflow_add-result c =
 
 pub returns-else-used-table : goal.returns-else-used-table
 returns-else-used-table c =
-    let bytes : Bytes c.args.table.now = λ i. search rules in
-    new_row _ _ _ _ _ (omega arith) (search rules) (rw c.in-Absent.is at c.in_ok-sought.ensures) bytes
+    new_row _ _ _ _ _ (omega arith) (search rules) (rw c.in-Absent.is at c.in_ok-sought.ensures) (λ i. search rules)
     (λ z. omega arith) c.insert.ensures
