@@ -14,7 +14,7 @@ use Rattle.outcomes.specs.Listing.{entry_of, accepted_line, refused_line, line_a
 use Rattle.fields.proofs.TypedLines.{field_typed}
 use Rattle.fields.specs.declared.Field.{Field}
 use Rattle.list.specs.Ratios.{ratios}
-use Rattle.list.specs.Lines.{listing-run}
+use Rattle.list.proofs.Lines.{listing-run}
 use Rattle.demands.specs.Lister.{Numeral, Answered, Lister}
 
 numeral : (n : ℕ) → Numeral n (decimal_of n)

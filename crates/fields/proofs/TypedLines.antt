@@ -1,5 +1,6 @@
 -- Feeding: no byte leaves a field blank, and a line that is fed byte by byte types the ratio that its bytes say.
-use Rattle.std.specs.Prelude.{◌≡◌, Bool, cond, not, ◌&&◌, ◌||◌, ◌⊎◌, ℕ, zero, suc, ◌+◌, ◌-◌, ◌*◌, ◌≤◌, ◌<◌, eqb, ltb, length, Result, Ok, Err}
+use Rattle.std.specs.Prelude.{◌≡◌, Bool, cond, not, ◌&&◌, ◌||◌, ◌⊎◌, ℕ, zero, suc, ◌+◌, ◌-◌, ◌*◌, ◌≤◌, ◌<◌, eqb, ltb}
+use Rattle.std.specs.Prelude.{length, Result, Ok, Err}
 use Rattle.std.proofs.Math.Path.{refl}
 use Rattle.std.proofs.Common.{sym, ◌∙◌, inl, inr, arith, ltb-true, ltb-false, eqb-true, lt-ltb, le-ltb}
 use Rattle.std.proofs.Math.Bool.{true, false, and-true, and-false, or-true}
@@ -103,7 +104,8 @@ bad_typed (c ∷ t) = rw (bad_chosen (eqb c 47), bad_chosen (is_digit c)) (bad_t
 
 -- a digit (d) where there is room for one (b) leads to next, and all else to what is bad; f says what is typed
 digit_fed : (f : Bool → Result Fraction Refusal) → f false ≡ Err Malformed → (d b x : Bool) (next : Field) (t : List ℕ)
-    → typed_of (foldl fed_by next t) ≡ f x → typed_of (foldl fed_by (cond d (cond b next Bad) Bad) t) ≡ f (d && (b && x))
+    → typed_of (foldl fed_by next t) ≡ f x
+    → typed_of (foldl fed_by (cond d (cond b next Bad) Bad) t) ≡ f (d && (b && x))
 digit_fed f e true true x next t h = h
 digit_fed f e true false x next t h = bad_typed t ∙ sym e
 digit_fed f e false b x next t h = bad_typed t ∙ sym e
@@ -128,7 +130,8 @@ typed_behind n w first second =
 module _ (s next : Field) (n w c : ℕ) (t : List ℕ)
     (slash : typed_of (foldl fed_by (fed_slash s) t) ≡ typed_behind n w [] t)
     (digit : fed_digit s (c - 48) ≡ cond (ltb n 10) next Bad)
-    (more : typed_of (foldl fed_by next t) ≡ typed_behind (n + 1) (w * 10 + (c - 48)) (before_slash t) (after_slash t)) where
+    (more : typed_of (foldl fed_by next t)
+        ≡ typed_behind (n + 1) (w * 10 + (c - 48)) (before_slash t) (after_slash t)) where
   byte_typed : (b : Bool) → eqb c 47 ≡ b
       → typed_of (foldl fed_by s (c ∷ t)) ≡ typed_behind n w (before_slash (c ∷ t)) (after_slash (c ∷ t))
   unfolding before_slash after_slash

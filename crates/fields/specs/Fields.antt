@@ -1,5 +1,6 @@
 -- What a field is after one byte more, and the ratio that was typed.
-use Rattle.std.specs.Prelude.{Bool, true, false, cond, ◌||◌, ℕ, ◌+◌, ◌-◌, ◌*◌, eqb, ltb, Option, Some, None, Result, Ok, Err}
+use Rattle.std.specs.Prelude.{Bool, true, false, cond, ◌||◌, ℕ, ◌+◌, ◌-◌, ◌*◌, eqb, ltb, Option, Some, None, Result}
+use Rattle.std.specs.Prelude.{Ok, Err}
 use Rattle.fractions.specs.declared.Fraction.{Fraction}
 use Rattle.keys.specs.Size.{limit}
 use Rattle.numerals.specs.Numerals.{is_digit}

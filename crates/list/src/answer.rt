@@ -3,6 +3,7 @@ ghost use Rattle.std.specs.Prelude.{◌≡◌, ◌≤◌, length};
 ghost use Rattle.bits.specs.Strings.{closed};
 ghost use Rattle.bits.specs.Texts.{text_of};
 ghost use Rattle.blocks.specs.Blocks.{bits_of_block};
+ghost use Rattle.numerals.specs.Numerals.{decimal_of};
 ghost use Rattle.outcomes.specs.Listing.{marked, refused_line};
 ghost use Rattle.refusals.specs.Numbers.{number_of};
 ghost use Rattle.list.specs.Ratios.{answer_of};
@@ -41,18 +42,29 @@ fn entry_for(field: Field) -> Result<Entry, Refusal>
     })
 }
 
+// The digits of a number.
+#[tactic(auto, using(numerals::proofs::Laws::decimal_size), unfolding(put::specs::Putting::decimal_put))]
+fn put_digits(n: u32, out: &mut [u8]) -> usize
+    requires { 10 ≤ length out.old }
+    ensures puts { Puts (decimal_of n) out.old result out.new }
+    ensures upper_bound { result ≤ 10 }
+{
+    put::put_decimal(n, out).unwrap()
+}
+
 // A number, and a mark behind it.
 fn put_number(n: u32, mark: u8, out: &mut [u8]) -> usize
     requires { 11 ≤ length out.old }
     ensures puts { Puts (marked n mark) out.old result out.new }
     ensures upper_bound { result ≤ 11 }
 {
-    let at = put::put_decimal(n, out).unwrap();
+    let at = put_digits(n, out);
     out[at] = mark;
     at + 1
 }
 
 // The text of a key.
+#[tactic(auto, using(crate::proofs::Replies::few_characters), unfolding(put::specs::Putting::text_put))]
 fn put_key(key: Block, out: &mut [u8]) -> usize
     requires { 96 ≤ length out.old }
     ensures puts { Puts (text_of (closed (bits_of_block key))) out.old result out.new }

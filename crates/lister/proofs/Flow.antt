@@ -1,12 +1,13 @@
 -- One passage after another, from an unread input and an empty buffer to the end.
-use Rattle.std.specs.Prelude.{◌≡◌, refl, List, [], ◌++◌, ℕ, ◌+◌, ◌≤◌, ◌<◌, length, Option, Some, None, Result, Ok, Err, OnOk, MatchResult, is_ok, true}
+use Rattle.std.specs.Prelude.{◌≡◌, refl, List, [], ◌++◌, ℕ, ◌+◌, ◌≤◌, ◌<◌, length, Option, Some, None, Result, Ok}
+use Rattle.std.specs.Prelude.{Err, OnOk, MatchResult, is_ok, true}
 use Rattle.std.proofs.Common.{sym, ◌∙◌, arith, append_assoc, append-nil, length-append}
 use Rattle.std.specs.Io.KnownBytes.{Appends, Consumes, IsAtEnd}
 use Rattle.fields.specs.declared.Field.{Field}
 use Rattle.fields.specs.declared.Field.TheVariants.{Empty}
 use Rattle.lines.specs.Machines.{whole, run}
 use Rattle.list.specs.Ratios.{ratios}
-use Rattle.list.specs.Lines.{listing-run}
+use Rattle.list.proofs.Lines.{listing-run}
 use Rattle.outcomes.specs.Listing.{listing}
 use Rattle.lister.specs.Flow.{Passes, Answers, ListsPart, WritesAll, WritesListing}
 
@@ -45,7 +46,7 @@ passes_both {o} {m} {n} {w} {t} {v} {u} {x} p q =
     record {
       gone = p.gone ++ q.gone;
       written = appends_both o m n p.gone q.gone p.written q.written;
-      rest = rw (← append_assoc, p.rest, append_assoc, q.rest, append_assoc);
+      rest = rw (← append_assoc, p.rest, append_assoc p.gone v u, q.rest, append_assoc);
     }
 
 -- a text that comes behind what waits

@@ -25,7 +25,8 @@ pub record Adds (s : Field) (part waited : List ℕ) (taken : ℕ) (s' : Field) 
   pub memory : waits ≡ waited ++ text
 
 -- All of a part is listed.
-pub record ListsPart (old new : Option (List ℕ)) (s : Field) (part waited : List ℕ) (s' : Field) (waits : List ℕ) : Type 0 where
+pub record ListsPart (old new : Option (List ℕ)) (s : Field) (part waited : List ℕ) (s' : Field) (waits : List ℕ)
+    : Type 0 where
   pub text : List ℕ
   pub answers : Answers s part text s' []
   pub passes : Passes old new waited text waits

@@ -1,6 +1,6 @@
 -- A turn takes a byte: it goes into the field, or ends the line, whose answer is put into the rest of the memory.
 use Rattle.std.proofs.Common.{◌≡◌, length, arith}
-use Rattle.list.specs.Going.{going-full, going_fed, going-answered, going-end}
+use Rattle.list.proofs.Going.{going-full, going_fed, going-answered, going-end}
 use Rattle.list.proofs.list.Goals as goal
 use Rattle.list.proofs.list.Goals.{in-Some, in-None+in-Some-answer}
 

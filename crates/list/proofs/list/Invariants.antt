@@ -1,6 +1,6 @@
 -- The invariant: what is left of the stretch goes on behind what was written. The measure is what is left of the input.
 use Rattle.std.proofs.Common.{◌-◌, length}
-use Rattle.list.specs.Going.{Going}
+use Rattle.list.proofs.Going.{Going}
 use Rattle.list.proofs.list.Given as goal
 
 abbrev pub invariant-loop-taken : goal.invariant-loop-taken

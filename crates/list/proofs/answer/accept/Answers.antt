@@ -1,7 +1,7 @@
 -- Each text stands behind those before it, and there is room: a number and its mark take 11 bytes at most, a key 96.
 use Rattle.std.proofs.Common.{◌∙◌, arith}
 use Rattle.outcomes.specs.Listing.{entry_of}
-use Rattle.list.specs.Puts.{puts-length, puts-text, puts_mark}
+use Rattle.list.proofs.Puts.{puts-length, puts-text, puts_mark}
 use Rattle.list.proofs.answer.accept.Goals as goal
 
 pub returns : goal.returns

@@ -2,7 +2,7 @@
 use Rattle.std.proofs.Common.{◌∙◌, ap, rules}
 use Rattle.spell.specs.Callers.{key-spells, divisor_positive}
 use Rattle.list.specs.Ratios.{answer_typed}
-use Rattle.list.specs.Replies.{reply_err, zero-told, key-told}
+use Rattle.list.proofs.Replies.{reply_err, zero-told, key-told}
 use Rattle.list.proofs.answer.entry_for.Goals as goal
 
 pub returns-in_err-spelled : goal.returns-in_err-spelled

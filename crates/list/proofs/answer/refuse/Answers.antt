@@ -2,7 +2,8 @@
 use Rattle.std.proofs.Common.{◌++◌, ◌∙◌, refl, drop, arith}
 use Rattle.lines.specs.Lines.{printed}
 use Rattle.outcomes.specs.Listing.{refused_line}
-use Rattle.list.specs.Puts.{Puts, puts-text, puts-length}
+use Rattle.list.specs.Puts.{Puts}
+use Rattle.list.proofs.Puts.{puts-text, puts-length}
 use Rattle.list.proofs.answer.refuse.Goals as goal
 
 pub returns : goal.returns

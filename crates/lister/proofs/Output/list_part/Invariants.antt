@@ -8,7 +8,9 @@ invariant-loop-left g l =
     record {
       text : List ℕ;
       answers : Answers l.fn.self.field l.part text l.self.field l.left;
-      passes : Passes (g.W.Write.contents l.fn.self.to) (g.W.Write.contents l.self.to) (take l.fn.self.held l.fn.self.buffer) text (take l.self.held l.self.buffer);
+      passes :
+          Passes (g.W.Write.contents l.fn.self.to) (g.W.Write.contents l.self.to)
+          (take l.fn.self.held l.fn.self.buffer) text (take l.self.held l.self.buffer);
     }
 
 abbrev pub decreases-loop-left : goal.decreases-loop-left

@@ -1,6 +1,8 @@
 -- The lister on its way through a stretch: what it took, wrote and left, from one byte to the next and to the end.
-use Rattle.std.specs.Prelude.{◌≡◌, refl, Bool, true, false, cond, List, [], ◌∷◌, ◌++◌, ℕ, ◌+◌, ◌-◌, ◌≤◌, ◌<◌, eqb, length, get_or, take, drop, Option, Some, None}
-use Rattle.std.proofs.Common.{sym, ap, ◌∙◌, append-nil, add-zero, add-one, arith, eqb-true, length-append, length-drop, drop_of_length-le, drop-cons, take-append-drop}
+use Rattle.std.specs.Prelude.{◌≡◌, refl, Bool, true, false, cond, List, [], ◌∷◌, ◌++◌, ℕ, ◌+◌, ◌-◌, ◌≤◌, ◌<◌, eqb}
+use Rattle.std.specs.Prelude.{length, get_or, take, drop, Option, Some, None}
+use Rattle.std.proofs.Common.{sym, ap, ◌∙◌, append-nil, add-zero, add-one, arith, eqb-true, length-append}
+use Rattle.std.proofs.Common.{length-drop, drop_of_length-le, drop-cons, take-append-drop}
 use Rattle.std.proofs.lemmas.Bool.{eqb-false}
 use Rattle.bits.proofs.Memory.{lent_part, lent_back}
 use Rattle.fields.specs.Fields.{fed_by, feed_of}
@@ -17,7 +19,8 @@ use Rattle.lines.proofs.Stretches.{
   stretch-fits,
   stretch-some,
 }
-use Rattle.list.specs.Puts.{Puts, MayPut, puts-text}
+use Rattle.list.specs.Puts.{Puts, MayPut}
+use Rattle.list.proofs.Puts.{puts-text}
 use Rattle.list.specs.Ratios.{answer_of, ratios}
 use Rattle.list.specs.Listing.{Lists}
 
@@ -139,7 +142,8 @@ module _ {begun field : Field} {input m now : List ℕ} {taken written : ℕ}
         (rw fed (stretch_feeds ratios room field byte rest other))
 
     -- a newline, and the answer is put into the rest of the memory
-    pub going-answered : {n : ℕ} {part : List ℕ} → None ≡ feed_of field byte → MayPut 130 (answer_of field) lent (Some n) part
+    pub going-answered : {n : ℕ} {part : List ℕ} → None ≡ feed_of field byte
+        → MayPut 130 (answer_of field) lent (Some n) part
         → Going begun input m Empty (taken + 1) (written + n) (back part)
     going-answered {n} {part} e (l, p) =
         let r : 130 ≤ room = rw (lent_part, length-drop, g.same) at l in

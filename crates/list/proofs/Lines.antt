@@ -19,7 +19,8 @@ use Rattle.list.specs.Ratios.{answer_typed, answer_of, ratios}
 -- a typed ratio is answered by the first fault of its line that is there
 typed_answered : (shaped large : Bool) (r : Fraction)
     → answer_typed (cond shaped (cond large (Err OutOfRange) (Ok r)) (Err Malformed))
-    ≡ line_for (first_of ((10, not shaped) ∷ (7, large) ∷ zero_denominator r.denominator ∷ [])) r.numerator r.denominator
+    ≡ line_for (first_of ((10, not shaped) ∷ (7, large) ∷ zero_denominator r.denominator ∷ [])) r.numerator
+    r.denominator
 typed_answered false large r = refl
 typed_answered true true r = refl
 typed_answered true false r = by_test (eqb r.denominator 0)

@@ -1,0 +1,4 @@
+pub mod Puts
+pub mod Replies
+pub mod Lines
+pub mod Going
