@@ -91,7 +91,8 @@ module _ (m : List ℕ) (used : ℕ) (last : Block) where
 
   module _ (small : Bytes m) (b : Block) where
     -- keys stand as the rows do
-    below-rows : (i : ℕ) → LastAt m (suc i) last → is_row (row_in m (suc i)) ≡ true → b ≡ block_of_row (row_in m (suc i))
+    below-rows : (i : ℕ) → LastAt m (suc i) last → is_row (row_in m (suc i)) ≡ true
+        → b ≡ block_of_row (row_in m (suc i))
         → block_below last b ≡ row_below (row_in m i) (row_in m (suc i))
     below-rows i k e f =
         let r = row_in m i in

@@ -30,8 +30,8 @@ pub fn row_at(m: &[u8], i: usize) -> Row
     }
 }
 
-// Whether a key stands before another. The high words nearly always decide, and branches ask them alone. The derived `<`
-// becomes code without branches, of 12 instructions a row more: judging then misses its bar of 1.05 times plain C.
+// Whether a key stands before another. The high words nearly always decide, and branches ask them alone. The derived
+// `<` becomes code without branches, of 12 instructions a row more: judging then misses its bar of 1.05 times plain C.
 pub fn is_below(a: Block, b: Block) -> bool
     ensures { result ≡ block_below a b }
 {
@@ -44,8 +44,8 @@ pub fn is_below(a: Block, b: Block) -> bool
     a.low < b.low
 }
 
-// Whether the key of row i doesn't stand behind that of the row before it. The first row has none before it, as its index
-// tells. An `Option` of the key before would say so too, but takes 8 instructions a row more, and the bar is missed as well.
+// Whether the key of row i doesn't stand behind that of the row before it. The first row has none before it, as its
+// index tells. An `Option` of the key before would say so too, but takes 8 instructions a row more: the bar is missed too.
 fn falls(i: usize, last: Block, block: Block) -> bool
     ensures { result ≡ falls_at i last block }
 {
