@@ -33,8 +33,8 @@ module _ (j k : List ℕ) where
     unfolding compare_text
     first-key = (told-key j (key_refusals k []) numbers [] [] e).1
 
-    pub second_faulty : (r : Result Ordering Refusal) (f : Fault) → Err f ≡ judgement k → IsErrAnd r (λ d. d ≡ f.refusal)
-        → leaves (answered 1 standing_as r) [] ≡ compare_text j k
+    pub second_faulty : (r : Result Ordering Refusal) (f : Fault) → Err f ≡ judgement k
+        → IsErrAnd r (λ d. d ≡ f.refusal) → leaves (answered 1 standing_as r) [] ≡ compare_text j k
     second_faulty r f d h = told_on k [] numbers [] [] standing_as r f d h ∙ first-key
 
     pub stood : (o : Ordering) → Ok tt ≡ judgement k → o ≡ slice_cmp nat_cmp j k

@@ -72,8 +72,10 @@ pub run_counted : (n : ℕ) (k : List ℕ) (z : Bool)
 run_counted zero k z = omega arith
 run_counted (suc n) [] true = omega arith
 run_counted (suc n) [] false = omega arith
-run_counted (suc n) (c ∷ k) true = rw differs_true (run-front n _ (not (eqb c 49)) (bits_read k true) (run_counted n k true))
-run_counted (suc n) (c ∷ k) false = rw differs_false (run-front n _ (eqb c 49) (bits_read k false) (run_counted n k false))
+run_counted (suc n) (c ∷ k) true =
+    rw differs_true (run-front n _ (not (eqb c 49)) (bits_read k true) (run_counted n k true))
+run_counted (suc n) (c ∷ k) false =
+    rw differs_false (run-front n _ (eqb c 49) (bits_read k false) (run_counted n k false))
 
 run_of_lem : (s : Bits) → run_of s ≤ length s
 run_of_lem [] = omega arith
@@ -103,7 +105,8 @@ module _ (k : List ℕ) (z : Bool) {most : ℕ} (m : most ≡ min (length k) 32)
       by_test false q = omega (arith, ltb-false place (length among) q, size, whole, run_counted most k z)
 
 -- looking by the library: no character from there on is a 1
-pub zeros_are : (at : ℕ) (k : List ℕ) → list_all (λ c. not (eqb c 49)) (drop at k) ≡ all_ones (drop at (bits_read k true))
+pub zeros_are : (at : ℕ) (k : List ℕ)
+    → list_all (λ c. not (eqb c 49)) (drop at k) ≡ all_ones (drop at (bits_read k true))
 zeros_are zero [] = refl
 zeros_are (suc at) [] = refl
 zeros_are (suc at) (c ∷ k) = zeros_are at k
@@ -164,7 +167,8 @@ module _ (z : Bool) (s : Bits) (h : ended z s ≡ false) {r : ℕ} (e : r ≡ mi
 
 -- at a place that is what is taken from the text behind the characters used, as it is lent
 pub taken-lent : (k : List ℕ) (p : Place) (d : Kind) (at : ℕ) → p.due ≡ d → at ≡ min p.used (length k)
-    → taken_from (is_turned d) (bits_read (take (length k - at) (drop at k)) (is_turned d)) ≡ taken_at (bits_of_text k) p
+    → taken_from (is_turned d) (bits_read (take (length k - at) (drop at k)) (is_turned d))
+    ≡ taken_at (bits_of_text k) p
 taken-lent k p d at e h =
     rw (lent_part, behind, ← drop-map (λ c. eqb c 49) p.used k) (taken_at_lem (bits_of_text k) p d e)
   where

@@ -56,7 +56,8 @@ is_ended (suc n) (true ∷ s) l h =
 is_ended (suc n) (false ∷ s) l h = is_ended n s (omega arith) h
 
 -- 64 zeros and more: the run is long, unless the rest is zeros too
-pub long_turned : (s : Bits) → number_of (first_bits false 64 s) ≡ 0 → (number_of (first_bits false 64 (drop 64 s)) ≡ 0 → ⊥)
+pub long_turned : (s : Bits) → number_of (first_bits false 64 s) ≡ 0
+    → (number_of (first_bits false 64 (drop 64 s)) ≡ 0 → ⊥)
     → Err OutOfRange ≡ taken_from true (turn s)
 long_turned s e h =
     taken_long true (turn s)
@@ -66,7 +67,8 @@ long_turned s e h =
     all_ones_lem : Counted (2 ^ 64 - 1) 32
     all_ones_lem = record { most = omega arith; ones = omega arith; stopped = λ l. absurd (omega arith) }
 
-pub end_turned : (n : ℕ) (s : Bits) → length s ≤ n → number_of (first_bits false n s) ≡ 0 → Ok None ≡ taken_from true (turn s)
+pub end_turned : (n : ℕ) (s : Bits) → length s ≤ n → number_of (first_bits false n s) ≡ 0
+    → Ok None ≡ taken_from true (turn s)
 end_turned n s l e = sym (taken-ended true (turn s) (is_ended n s l e))
 
 -- the same in two windows
@@ -84,7 +86,8 @@ module _ (b : Bits) (whole : length b ≡ 96) (p : Place) (e : p.due ≡ Turned)
     here h = h ∙ taken_at_lem b p Turned e
 
     pub word_there : {t : Taken} → (w ≡ 0 → ⊥)
-        → ((z : Bool) (s : Bits) → ended z s ≡ false → number_of (first_bits z 64 s) ≡ 2 ^ 64 - 1 - w → t ≡ taken_from z s)
+        → ((z : Bool) (s : Bits) → ended z s ≡ false → number_of (first_bits z 64 s) ≡ 2 ^ 64 - 1 - w
+      → t ≡ taken_from z s)
         → t ≡ taken_at b p
     word_there n h = here (h true (turn left) (not-ended 64 left λ x. n (first ∙ x)) (turned_window left w first))
 

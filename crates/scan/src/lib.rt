@@ -112,7 +112,8 @@ pub fn take(b: Block, place: Place) -> Result<Option<Quotient>, Refusal>
     }
 }
 
-// The word due at a place of a text, extended by zeros, read straight from its characters. Past the text there are none.
+// The word due at a place of a text, extended by zeros, read straight from its characters, of which there are none past
+// its end.
 pub fn take_text(k: &[u8], place: Place) -> Result<Option<Quotient>, Refusal>
     ensures { result ≡ taken_at (bits_of_text k.now) place }
 {

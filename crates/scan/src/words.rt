@@ -15,11 +15,9 @@ use refusals::Refusal;
 pub fn window(b: Block, used: usize) -> u64
     ensures { result ≡ number_of (first_bits false 64 (drop used (bits_of_block b))) }
 {
-    let high = b.high;
-    let low = b.low;
-    let rest = (low as u64) << 32;
+    let rest = (b.low as u64) << 32;
     if used < 64 {
-        return (high << used) + (rest >> 1 >> (63 - used));
+        return (b.high << used) + (rest >> 1 >> (63 - used));
     }
     if used < 96 {
         return rest << (used - 64);

@@ -31,8 +31,8 @@ module _ (k : List ℕ) where
   abbrev first : Bool
   first = get_or (bits_of_text k) 0 false
 
-  pub start_faulty : (r : Result Place reasons.Refusal) (f : Fault) → Err f ≡ judgement k → IsErrAnd r (λ d. d ≡ f.refusal)
-      → leaves (answered 2 place_as r) [] ≡ start_text k
+  pub start_faulty : (r : Result Place reasons.Refusal) (f : Fault) → Err f ≡ judgement k
+      → IsErrAnd r (λ d. d ≡ f.refusal) → leaves (answered 2 place_as r) [] ≡ start_text k
   unfolding start_text
   start_faulty = told_on k [] (place_of 1 (not first)) [] [] place_as
 

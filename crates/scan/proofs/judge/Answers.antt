@@ -1,24 +1,32 @@
 -- Each return cites the judgement's law for the tests that led there.
-use Rattle.std.proofs.Common.{sym, arith, eqb-true}
+use Rattle.std.proofs.Common.{◌≡◌, sym, arith, eqb-true}
 use Rattle.std.proofs.lemmas.Bool.{eqb-false}
-use Rattle.scan.specs.Verdicts.{judged_empty, judged_long, judged_strange, Cleared, cleared, judged_single, judged_open, judged-key}
+use Rattle.std.proofs.Math.ListN.{length}
+use Rattle.scan.specs.Verdicts.{judged_empty, judged_long, judged_strange, Cleared, cleared}
+use Rattle.scan.specs.Verdicts.{judged_single, judged_open, judged-key}
 use Rattle.scan.proofs.judge.Goals as goal
-use Rattle.scan.proofs.judge.Goals.{Else-at-k, else-k-gt1-via-then-k-gt1+else-k-last-eq48, else-k-gt1-via-else-k-gt1}
+use Rattle.scan.proofs.judge.Goals.{Else-is_empty, Else-at-k}
+use Rattle.scan.proofs.judge.Goals.{else-k-gt1-via-then-k-gt1+else-k-last-eq48, else-k-gt1-via-else-k-gt1}
 
 pub returns-then-is_empty : goal.returns-then-is_empty
 returns-then-is_empty c = judged_empty c.args.k.now (eqb-true _ _ (sym c.if-is_empty.ensures))
 
+some : (c : Else-is_empty) → length c.args.k.now ≡ 0 → ⊥
+some c = eqb-false _ _ (sym c.if-is_empty.ensures)
+
 pub returns-then-k-gt96 : goal.returns-then-k-gt96
-returns-then-k-gt96 c = judged_long c.args.k.now (eqb-false _ _ (sym c.if-is_empty.ensures)) (omega arith)
+returns-then-k-gt96 c = judged_long c.args.k.now (some (goal.at.returns-then-k-gt96 c).Else-is_empty) (omega arith)
 
 pub returns-then-at-k : goal.returns-then-at-k
 returns-then-at-k c =
-    judged_strange c.args.k.now (eqb-false _ _ (sym c.if-is_empty.ensures)) (omega arith) c.first_strange-at.ensures c.if-at-k.true
+    let there = some (goal.at.returns-then-at-k c).Else-is_empty in
+    judged_strange c.args.k.now there (omega arith) c.first_strange-at.ensures c.if-at-k.true
 
 -- only the last character is left to judge
 left : (c : Else-at-k) → Cleared c.args.k.now
 left c =
-    cleared c.args.k.now (eqb-false _ _ (sym c.if-is_empty.ensures)) (omega arith) c.first_strange-at.ensures c.if-at-k.false
+    cleared c.args.k.now (eqb-false _ _ (sym c.if-is_empty.ensures)) (omega arith) c.first_strange-at.ensures
+    c.if-at-k.false
 
 pub returns-then-k-last-eq48 : goal.returns-then-k-last-eq48
 returns-then-k-last-eq48 c =

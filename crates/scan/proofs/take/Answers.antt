@@ -12,22 +12,27 @@ use Rattle.scan.proofs.take.Goals as goal
 pub returns-in-Word : goal.returns-in-Word
 returns-in-Word c =
     let b = bits_of_block c.args.b in
-    c.word.ensures false (drop c.args.place.used b) refl (sym c.window-w.ensures) ∙ taken_at_lem b c.args.place Word c.in-Word.is
+    let first = sym c.window-w.ensures in
+    c.word.ensures false (drop c.args.place.used b) refl first ∙ taken_at_lem b c.args.place Word c.in-Word.is
 
 pub returns-in-Turned : goal.returns-in-Turned
 returns-in-Turned c =
-    word_there _ (block-length c.args.b) c.args.place c.in-Turned.is c.window-w.ensures c.if-w-ne0.true c.word-in-Turned.ensures
+    let whole = block-length c.args.b in
+    word_there _ whole c.args.place c.in-Turned.is c.window-w.ensures c.if-w-ne0.true c.word-in-Turned.ensures
 
 pub returns-in-Turned-2 : goal.returns-in-Turned-2
 returns-in-Turned-2 c =
-    long_there _ (block-length c.args.b) c.args.place c.in-Turned.is c.window-w.ensures c.if-w-ne0.false c.window.ensures
+    let whole = block-length c.args.b in
+    long_there _ whole c.args.place c.in-Turned.is c.window-w.ensures c.if-w-ne0.false c.window.ensures
     c.if-window-ne0.true
 
 pub returns-in-Turned-3 : goal.returns-in-Turned-3
 returns-in-Turned-3 c =
-    end_behind _ (block-length c.args.b) c.args.place c.in-Turned.is c.window-w.ensures c.if-w-ne0.false c.window.ensures
+    let whole = block-length c.args.b in
+    end_behind _ whole c.args.place c.in-Turned.is c.window-w.ensures c.if-w-ne0.false c.window.ensures
     c.if-window-ne0.false
 
 pub returns-in-Turned-3-2 : goal.returns-in-Turned-3-2
 returns-in-Turned-3-2 c =
-    end_there _ (block-length c.args.b) c.args.place c.in-Turned.is c.window-w.ensures c.if-w-ne0.false c.if-used-lt32.false
+    let whole = block-length c.args.b in
+    end_there _ whole c.args.place c.in-Turned.is c.window-w.ensures c.if-w-ne0.false c.if-used-lt32.false

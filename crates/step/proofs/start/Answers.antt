@@ -1,5 +1,5 @@
--- Each way is what judging gave, by `proofs/Replies.antt`; the test of the first character says which kind is due. A key
--- has one.
+-- Each way is what judging gave, by `proofs/Replies.antt`; the test of the first character, which a key has, says which
+-- kind is due.
 use Rattle.std.proofs.Common.{arith}
 use Rattle.step.proofs.Replies.{start_faulty, some-character, start-word, start_turned}
 use Rattle.step.proofs.start.Goals as goal

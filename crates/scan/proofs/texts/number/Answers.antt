@@ -22,4 +22,5 @@ overflow_add-v c =
 pub loop-i-preserved : goal.loop-i-preserved
 loop-i-preserved c =
     let s = bits_read c.args.k.now c.args.turned in
-    rw c.from.ensures (digits-more c.args.turned s c.args.run c.loop-i.i c.loop-i.invariant _ (omega arith) c.bit.ensures)
+    let l = c.loop-i in
+    rw c.from.ensures (digits-more c.args.turned s c.args.run l.i l.invariant _ (omega arith) c.bit.ensures)

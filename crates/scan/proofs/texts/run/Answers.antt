@@ -12,8 +12,8 @@ pub returns-clause-ones : goal.returns-clause-ones
 returns-clause-ones c =
     let k = c.args.k.now in
     let z = c.args.turned in
+    let items = YieldsList-at c.take.ensures.source (YieldsList-from_slice k cc) in
     let found =
     position_from_yields_List (λ b. beq (eqb b 49) z) _ _ c.position.result c.position.ensures.ran
-    (YieldsList-from_take c.min-most.result (YieldsList-at c.take.ensures.source (YieldsList-from_slice k cc)) c.take.ensures.count)
-    (λ x b q h. search (rules, tests)) in
+    (YieldsList-from_take c.min-most.result items c.take.ensures.count) (λ x b q h. search (rules, tests)) in
     c.unwrap_or.ensures ∙ run_found k z c.min-most.ensures found

@@ -6,7 +6,8 @@ use Rattle.scan.proofs.Taking.{taken-ended}
 use Rattle.scan.specs.Characters.{bits_read}
 use Rattle.scan.proofs.Characters.{ended-after, run_long, run-word}
 use Rattle.scan.proofs.texts.word.Goals as goal
-use Rattle.scan.proofs.texts.word.Goals.{Joined-else-turned, else-turned-via-then-turned+else-zeros_from, else-turned-via-else-turned}
+use Rattle.scan.proofs.texts.word.Goals.{Joined-else-turned}
+use Rattle.scan.proofs.texts.word.Goals.{else-turned-via-then-turned+else-zeros_from, else-turned-via-else-turned}
 
 pub returns-then-zeros_from : goal.returns-then-zeros_from
 returns-then-zeros_from c =
@@ -28,7 +29,8 @@ going c =
 pub returns-then-r-gt31 : goal.returns-then-r-gt31
 returns-then-r-gt31 c =
     let z = c.args.turned in
-    run_long z (bits_read c.args.k.now z) (going (goal.at.returns-then-r-gt31 c).Joined-else-turned) c.run-r.ensures.ones (omega arith)
+    let goes = going (goal.at.returns-then-r-gt31 c).Joined-else-turned in
+    run_long z (bits_read c.args.k.now z) goes c.run-r.ensures.ones (omega arith)
 
 pub returns : goal.returns
 returns c =
