@@ -23,11 +23,14 @@ use Rattle.families.specs.Words.{run_of, first_number}
 use Rattle.families.proofs.Digits.{number_low, number_high}
 use Rattle.load.specs.Gathering.{byte_digit}
 use Rattle.scan.specs.declared.Kind.{Kind}
+use Rattle.scan.specs.declared.Kind.TheVariants.{Word, Turned}
+use Rattle.scan.specs.contracts.Kind.{the_type}
+use denote.Enum.Bare.{sameb}
 use Rattle.scan.specs.declared.Place.{Place}
 use Rattle.refusals.specs.declared.Refusal.TheVariants.{OutOfRange}
 use Rattle.scan.specs.Characters.{bits_read}
 use Rattle.scan.specs.Taking.{is_turned, took, taken_from, taken_at}
-use Rattle.scan.proofs.Taking.{taken_many, taken_few, taken_at_lem}
+use Rattle.scan.proofs.Taking.{taken_many, taken_few}
 
 -- whether the character at i, as it is read, is a zero
 abbrev zero_at : List ℕ → Bool → ℕ → Bool
@@ -165,12 +168,15 @@ module _ (z : Bool) (s : Bits) (h : ended z s ≡ false) {r : ℕ} (e : r ≡ mi
   unfolding first_number
   run-word l = let same : r ≡ run_of s = omega arith in rw same (taken_few z s h (run_of s) low high (omega arith))
 
+-- the library's test of the kind that is due
+pub due_test : (d : Kind) → sameb the_type d Turned ≡ is_turned d
+due_test Word = refl
+due_test Turned = refl
+
 -- at a place that is what is taken from the text behind the characters used, as it is lent
-pub taken-lent : (k : List ℕ) (p : Place) (d : Kind) (at : ℕ) → p.due ≡ d → at ≡ min p.used (length k)
-    → taken_from (is_turned d) (bits_read (take (length k - at) (drop at k)) (is_turned d))
-    ≡ taken_at (bits_of_text k) p
-taken-lent k p d at e h =
-    rw (lent_part, behind, ← drop-map (λ c. eqb c 49) p.used k) (taken_at_lem (bits_of_text k) p d e)
+pub taken-lent : (k : List ℕ) (p : Place) (at : ℕ) {z : Bool} → z ≡ is_turned p.due → at ≡ min p.used (length k)
+    → taken_from z (bits_read (take (length k - at) (drop at k)) z) ≡ taken_at (bits_of_text k) p
+taken-lent k p at e h = rw (e, lent_part, behind, ← drop-map (λ c. eqb c 49) p.used k) refl
   where
     by_size : Dec (p.used < length k) → drop at k ≡ drop p.used k
     by_size (yes l) = ap (λ (n : ℕ). drop n k) {x = at} {y = p.used} (omega arith)

@@ -87,7 +87,7 @@ module _ (b : Bits) (whole : length b ≡ 96) (p : Place) (e : p.due ≡ Turned)
 
     pub word_there : {t : Taken} → (w ≡ 0 → ⊥)
         → ((z : Bool) (s : Bits) → ended z s ≡ false → number_of (first_bits z 64 s) ≡ 2 ^ 64 - 1 - w
-      → t ≡ taken_from z s)
+        → t ≡ taken_from z s)
         → t ≡ taken_at b p
     word_there n h = here (h true (turn left) (not-ended 64 left λ x. n (first ∙ x)) (turned_window left w first))
 

@@ -10,6 +10,7 @@ ghost use Rattle.scan.specs.Taking.{is_turned, taken_at};
 
 use blocks::Block;
 use refusals::Refusal;
+use texts::Characters;
 
 mod texts;
 mod words;
@@ -117,9 +118,7 @@ pub fn take(b: Block, place: Place) -> Result<Option<Quotient>, Refusal>
 pub fn take_text(k: &[u8], place: Place) -> Result<Option<Quotient>, Refusal>
     ensures { result ≡ taken_at (bits_of_text k.now) place }
 {
-    let rest = &k[place.used.min(k.len())..];
-    match place.due {
-        Kind::Word => texts::word(rest, false),
-        Kind::Turned => texts::word(rest, true),
-    }
+    let text = &k[place.used.min(k.len())..];
+    let turned = place.due == Kind::Turned;
+    Characters { text, turned }.word()
 }

@@ -2,7 +2,9 @@
 use Rattle.std.specs.Prelude.{◌≡◌, suc, drop}
 use Rattle.bits.specs.Binary.{number_from, first_bits}
 use Rattle.scan.specs.Characters.{bits_read}
-use Rattle.scan.proofs.texts.number.Given as goal
+use Rattle.scan.proofs.texts.Characters.number.Given as goal
 
 abbrev pub invariant-loop-i : goal.invariant-loop-i
-invariant-loop-i l = l.v ≡ number_from 1 (first_bits l.turned l.i (drop (suc l.run) (bits_read l.k l.turned)))
+invariant-loop-i l =
+    let z = l.self.turned in
+    l.v ≡ number_from 1 (first_bits z l.i (drop (suc l.run) (bits_read l.self.text.now z)))

@@ -6,12 +6,12 @@ use Rattle.std.proofs.lemmas.Iterator.{YieldsList-from_slice, YieldsList-from_ta
 use Rattle.std.proofs.lemmas.Iterator.Consumers.{YieldsList-at}
 use Rattle.std.proofs.lemmas.Iterator.Search.{position_from_yields_List}
 use Rattle.scan.proofs.Characters.{run_found}
-use Rattle.scan.proofs.texts.run.Goals as goal
+use Rattle.scan.proofs.texts.Characters.run.Goals as goal
 
 pub returns-clause-ones : goal.returns-clause-ones
 returns-clause-ones c =
-    let k = c.args.k.now in
-    let z = c.args.turned in
+    let k = c.args.self.text.now in
+    let z = c.args.self.turned in
     let items = YieldsList-at c.take.ensures.source (YieldsList-from_slice k cc) in
     let found =
     position_from_yields_List (λ b. beq (eqb b 49) z) _ _ c.position.result c.position.ensures.ran

@@ -1,9 +1,9 @@
 -- Within the text the character says the bit.
 use Rattle.std.proofs.Common.{rules}
 use Rattle.scan.proofs.Characters.{bit_got}
-use Rattle.scan.proofs.texts.bit.Goals as goal
+use Rattle.scan.proofs.texts.Characters.bit.Goals as goal
 
 pub returns : goal.returns
 returns c =
-    bit_got c.args.k.now c.args.turned c.args.i c.get.result c.map_or.result c.get.ensures.lookup.3 c.map_or.ensures
+    bit_got c.args.self.text.now c.args.self.turned c.args.i c.get.result c.map_or.result c.get.ensures.lookup.3 c.map_or.ensures
     (λ x h. search rules)
