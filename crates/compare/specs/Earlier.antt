@@ -19,7 +19,8 @@ pub record Earlier (j k r : Bor (List ℕ)) : Type 0 where
   pub if_refused : ((compare_text j.now k.now).refusal ≡ 0 → ⊥) → (r.ref_ptr ≡ j.ref_ptr) × (r.now ≡ [])
 
 compared : (j k : List ℕ)
-    → (compare_text j k ≡ gives (standing (bits_of_text j) (bits_of_text k) ∷ []) []) ⊎ ((compare_text j k).refusal ≡ 0 → ⊥)
+    → (compare_text j k ≡ gives (standing (bits_of_text j) (bits_of_text k) ∷ []) [])
+    ⊎ ((compare_text j k).refusal ≡ 0 → ⊥)
 unfolding compare_text
 compared j k =
     given_or_refused (key_refusals j (key_refusals k [])) (standing (bits_of_text j) (bits_of_text k) ∷ []) [] [] refl

@@ -5,5 +5,6 @@ use Rattle.scan.proofs.texts.Characters.bit.Goals as goal
 
 pub returns : goal.returns
 returns c =
-    bit_got c.args.self.text.now c.args.self.turned c.args.i c.get.result c.map_or.result c.get.ensures.lookup.3 c.map_or.ensures
+    let self = c.args.self in
+    bit_got self.text.now self.turned c.args.i c.get.result c.map_or.result c.get.ensures.lookup.3 c.map_or.ensures
     (λ x h. search rules)
