@@ -4,7 +4,7 @@ use Rattle.std.proofs.Math.Path.{refl}
 use Rattle.std.proofs.Common.{sym, ◌∙◌, add-one, arith}
 use Rattle.std.proofs.Math.Bool.{true, false, cond}
 use Rattle.std.proofs.Math.Decide.{dec_lt}
-use borrow.Author.Tests.{lt-ltb, le-ltb, eq-eqb, ne_eqb}
+use borrow.Author.Tests.{le-ltb, eq-eqb, ne_eqb}
 use Rattle.blocks.specs.declared.Block.{Block}
 use Rattle.outcomes.specs.BlockOrder.{block_below}
 use Rattle.outcomes.specs.Stocking.{wrong_table}
@@ -13,7 +13,7 @@ use Rattle.tables.specs.Rows.{room_of, row_of, rows_in}
 use Rattle.tables.specs.Sound.{sound}
 use Rattle.tables.specs.Stocks.{passed}
 use Rattle.tables.proofs.Tables.{rows_from, rows-next, rows-end, plain-fits}
-use Rattle.refusals.specs.declared.Refusal.TheVariants.{WrongSize, UnsoundTable}
+use Rattle.refusals.specs.declared.Refusal.TheVariants.{UnsoundTable}
 use Rattle.judge.specs.Judging.{block_of_row, row_before, passed_at, judged_rows, judged}
 
 module _ (key : Block) (m : List ℕ) (used : ℕ) where
@@ -80,20 +80,12 @@ module _ (key : Block) (m : List ℕ) (used : ℕ) where
   rows_unsound e = rw e
 
   -- what judging the table answers
-  pub judged_wrong : true ≡ (wrong_table stock_rows m).1 → Err WrongSize ≡ judged key used m
-  unfolding judged
-  judged_wrong e = rw (← e)
-
-  module _ (whole : false ≡ (wrong_table stock_rows m).1) where
-    pub judged_over : room_of stock_rows m < used → Err UnsoundTable ≡ judged key used m
-    unfolding judged
-    judged_over h = rw (← whole, lt-ltb (room_of stock_rows m) used h)
-
-    pub judged_rows_lem : used ≤ room_of stock_rows m → judged_rows key (rows_in 12 used m) ≡ judged key used m
-    unfolding judged judged_rows
-    judged_rows_lem h =
-        rw (← whole, le-ltb (room_of stock_rows m) used h, plain-fits used m) (by_test (sound (rows_in 12 used m)))
-      where
-        by_test : (t : Bool) → cond t (Ok all) (Err UnsoundTable) ≡ cond (not (t && true)) (Err UnsoundTable) (Ok all)
-        by_test true = refl
-        by_test false = refl
+  pub judged_rows_lem : false ≡ (wrong_table stock_rows m).1 → used ≤ room_of stock_rows m
+      → judged_rows key (rows_in 12 used m) ≡ judged key used m
+  unfolding judged judged_rows
+  judged_rows_lem e h =
+      rw (← e, le-ltb (room_of stock_rows m) used h, plain-fits used m) (by_test (sound (rows_in 12 used m)))
+    where
+      by_test : (t : Bool) → cond t (Ok all) (Err UnsoundTable) ≡ cond (not (t && true)) (Err UnsoundTable) (Ok all)
+      by_test true = refl
+      by_test false = refl

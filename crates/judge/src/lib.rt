@@ -17,6 +17,7 @@ use tables::Row;
 mod row;
 
 // Row i; a row of zeros where memory has none.
+#[tactic(auto, unfolding(tables::specs::Moves::row_at))]
 pub fn row_at(m: &[u8], i: usize) -> Row
     ensures { result ≡ row_at stock_rows i m.now }
 {
@@ -105,6 +106,7 @@ fn is_wrong(length: usize) -> bool
 }
 
 // Judges memory of which so many rows are said to be used, for a call that asks where a key stands.
+#[tactic(auto, using(crate::specs::Passing::judged_rows_lem), unfolding(crate::specs::Judging::judged))]
 pub fn judge(m: &[u8], used: usize, key: Block) -> Result<usize, Refusal>
     ensures { result ≡ judged key used m.now }
 {

@@ -8,6 +8,7 @@ ghost use Rattle.tables.specs.Moves.{put_at};
 use tables::Row;
 
 // A row as row i; nothing where memory has no such row.
+#[tactic(auto, unfolding(tables::specs::Moves::put_at))]
 pub fn put(m: &mut [u8], i: usize, row: Row)
     ensures { m.new ≡ put_at stock_rows i row m.old }
 {

@@ -8,6 +8,7 @@ ghost use Rattle.tables.specs.Moves.{inserted_at, removed_at};
 use tables::Row;
 
 // A row as row i; the rows from there to used move up by one.
+#[tactic(auto, unfolding(tables::specs::Moves::inserted_at))]
 pub fn insert(m: &mut [u8], i: usize, used: usize, row: Row)
     ensures { m.new ≡ inserted_at stock_rows i used row m.old }
 {
@@ -22,6 +23,7 @@ pub fn insert(m: &mut [u8], i: usize, used: usize, row: Row)
 }
 
 // Row i goes: the used rows behind it move down by one, and the last of them is zeroed.
+#[tactic(auto, unfolding(tables::specs::Moves::removed_at))]
 pub fn remove(m: &mut [u8], i: usize, used: usize)
     ensures { m.new ≡ removed_at stock_rows i used m.old }
 {

@@ -1,14 +1,10 @@
 -- The row is put where memory has it.
 use Rattle.std.proofs.Common.{sym, ◌∙◌, ◌≡◌, ◌+◌, ◌*◌, ◌-◌, arith}
-use borrow.Author.Tests.{lt-ltb, le-ltb}
+use borrow.Author.Tests.{lt-ltb}
 use Rattle.blocks.proofs.Bytewise.{length_low}
 use Rattle.tables.specs.Moves.{put_at}
 use Rattle.rows.specs.Putting.{four_bytes_lem, row-put}
 use Rattle.rows.proofs.put.Goals as goal
-
-pub returns-then-m-i : goal.returns-then-m-i
-unfolding put_at
-returns-then-m-i c = rw (le-ltb _ _ c.if-m-i.true)
 
 pub returns : goal.returns
 unfolding put_at

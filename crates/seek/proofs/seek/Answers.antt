@@ -1,7 +1,5 @@
 -- Each way is what spelling and judging gave, by `specs/Replies.antt`.
-use Rattle.std.proofs.Common.{rules, ◌≡◌, ◌≤◌}
-use Rattle.bits.specs.Texts.{Bytes}
-use Rattle.keys.specs.Size.{limit}
+use Rattle.std.proofs.Common.{rules}
 use Rattle.spell.specs.Callers.{key-spells, divisor_positive}
 use Rattle.seek.specs.Replies.{sought_refused, sought-zero, sought-end, sought-other, sought-here}
 use Rattle.seek.proofs.seek.Goals as goal
@@ -21,26 +19,15 @@ nonzero_div-fraction-2 c = divisor_positive (key-spells _ _ c.in_ok-spelled.ensu
 
 pub returns-then-has_terms : goal.returns-then-has_terms
 returns-then-has_terms c =
-    let bytes : Bytes c.args.m.now = λ i. (c.type_inv.m i).fits in
-    let p : c.args.p ≤ limit = search rules in
-    let q : c.args.q ≤ limit = search rules in
-    let key : c.map_or-key.result ≡ c.in_ok-spelled.spelled.block = search rules in
-    sought-here _ _ _ _ _ c.in_ok-index.ensures bytes p q c.in_ok-spelled.ensures key c.if-index-used.true
-    c.row_at-row.ensures c.if-has_terms.ensures
+    sought-here _ _ _ _ _ c.in_ok-index.ensures (λ i. (c.type_inv.m i).fits) (search rules) (search rules)
+    c.in_ok-spelled.ensures (search rules) c.if-index-used.true c.row_at-row.ensures c.if-has_terms.ensures
 
 pub returns-else-has_terms : goal.returns-else-has_terms
 returns-else-has_terms c =
-    let bytes : Bytes c.args.m.now = λ i. (c.type_inv.m i).fits in
-    let p : c.args.p ≤ limit = search rules in
-    let q : c.args.q ≤ limit = search rules in
-    let key : c.map_or-key.result ≡ c.in_ok-spelled.spelled.block = search rules in
-    sought-other _ _ _ _ _ c.in_ok-index.ensures bytes p q c.in_ok-spelled.ensures key c.if-index-used.true
-    c.row_at-row.ensures c.if-has_terms.ensures
+    sought-other _ _ _ _ _ c.in_ok-index.ensures (λ i. (c.type_inv.m i).fits) (search rules) (search rules)
+    c.in_ok-spelled.ensures (search rules) c.if-index-used.true c.row_at-row.ensures c.if-has_terms.ensures
 
 pub returns-else-index-used : goal.returns-else-index-used
 returns-else-index-used c =
-    let bytes : Bytes c.args.m.now = λ i. (c.type_inv.m i).fits in
-    let p : c.args.p ≤ limit = search rules in
-    let q : c.args.q ≤ limit = search rules in
-    let key : c.map_or-key.result ≡ c.in_ok-spelled.spelled.block = search rules in
-    sought-end _ _ _ _ _ c.in_ok-index.ensures bytes p q c.in_ok-spelled.ensures key c.if-index-used.false
+    sought-end _ _ _ _ _ c.in_ok-index.ensures (λ i. (c.type_inv.m i).fits) (search rules) (search rules)
+    c.in_ok-spelled.ensures (search rules) c.if-index-used.false
