@@ -1,10 +1,9 @@
 -- The last digits of a number, as many as are asked for; zeros stand in front where the number has fewer. They are put
 -- out from the last on.
 use Rattle.std.specs.Prelude.{◌≡◌, refl, List, [], ◌++◌, ℕ, zero, suc, ◌+◌, ◌-◌, ◌/◌, ◌%◌, ◌≤◌, length, take, drop, set}
-use Rattle.std.proofs.Common.{add-one, arith, length-append, length-take-le, drop_at}
-use Rattle.std.proofs.Math.Seq.{append_snoc}
+use Rattle.std.proofs.Common.{append-nil, add-one, arith, length-append, length-take-le, drop_at}
+use Rattle.std.proofs.Math.Seq.{append_snoc, drop-length}
 use Rattle.std.proofs.lemmas.List.{set_split}
-use Rattle.bits.specs.Texts.{in_front}
 use Rattle.numerals.specs.Numerals.{last_behind, decimal_of}
 use Rattle.numerals.proofs.Laws.{decimal_induction}
 
@@ -20,8 +19,8 @@ last-length : (k n : ℕ) → length (last_digits k n) ≡ k
 last-length zero n = refl
 last-length (suc k) n = rw (length-append, last-length k (n / 10), add-one)
 
-pub digits-front : (count n : ℕ) (m : List ℕ) → digits_to count n m ≡ in_front (last_digits count n) m
-digits-front count n m = rw last-length
+pub digits-whole : (n : ℕ) (m : List ℕ) → digits_to (length m) n m ≡ last_digits (length m) n
+digits-whole n m = rw (drop-length, append-nil)
 
 -- the last of them is put out, and the others are still to come
 pub digits-step : (at left : ℕ) (m : List ℕ) → 1 ≤ at → at ≤ length m

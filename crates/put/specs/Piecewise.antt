@@ -1,9 +1,9 @@
 -- A string put out as text piece by piece: each piece is taken from the top of a machine word, which is then shifted,
 -- and stands in memory behind the pieces before it.
 use Rattle.std.specs.Prelude.{◌≡◌, refl, false, List, [], ◌∷◌, ◌++◌, ℕ, zero, suc, ◌+◌, ◌-◌, ◌*◌, ◌/◌, ◌%◌, ◌^◌, ◌≤◌, ◌<◌, length, take, drop, set}
-use Rattle.std.proofs.Common.{◌∙◌, append_assoc, add-one, arith, length-drop, length-take-le, take-take, take-add, drop-drop}
+use Rattle.std.proofs.Common.{append-nil, ◌∙◌, append_assoc, add-one, arith, length-drop, length-take-le, take-take, take-add, drop-drop}
 use Rattle.std.proofs.lemmas.List.{map-append, length-map, take-append-le, set_split}
-use Rattle.std.proofs.Math.Seq.{drop-append-add}
+use Rattle.std.proofs.Math.Seq.{drop-append-add, drop-length}
 use Rattle.bits.specs.Strings.{Bits}
 use Rattle.bits.specs.Binary.{number_of, first_bits, digits_in}
 use Rattle.bits.specs.Texts.{char_of, text_of, in_front}
@@ -57,8 +57,14 @@ one_character (suc zero) h = refl
 one_character (suc (suc b)) h = absurd (omega arith)
 
 -- the first n characters of a text of bits are n
-text-size : (n : ℕ) (s : Bits) → n ≤ length s → length (text_of (take n s)) ≡ n
+pub text-size : (n : ℕ) (s : Bits) → n ≤ length s → length (text_of (take n s)) ≡ n
 text-size n s h = length-map (take n s) char_of ∙ length-take-le n s h
+
+-- the first characters of a word that fill the memory
+pub text-whole : (word : ℕ) (m : List ℕ) → length m ≤ 64
+    → in_front (text_of (take (length m) (digits_in 64 word))) m ≡ text_of (take (length m) (digits_in 64 word))
+text-whole word m h =
+    rw (text-size (length m) (digits_in 64 word) (omega (arith, length-digits 64 word)), drop-length, append-nil)
 
 module _ (word : ℕ) (fits : word < 2 ^ 64) (at : ℕ) (m : List ℕ) where
   abbrev bits : Bits

@@ -1,6 +1,5 @@
 // A number's decimal digits: counted, then put out from the last on.
-ghost use Rattle.std.specs.Prelude.{◌≡◌, ◌<◌, ◌≤◌, length};
-ghost use Rattle.bits.specs.Texts.{in_front};
+ghost use Rattle.std.specs.Prelude.{◌≡◌, length};
 ghost use Rattle.numerals.specs.Numerals.{decimal_of};
 ghost use Rattle.put.specs.Decimals.{last_digits};
 
@@ -11,13 +10,12 @@ pub fn places(n: u32) -> usize
     n.max(1).ilog10() as usize + 1
 }
 
-// The last count digits of n at the front of out.
-pub fn put_digits(out: &mut [u8], n: u32, count: usize)
-    requires { count ≤ length out.old }
-    ensures { out.new ≡ in_front (last_digits count n) out.old }
+// The last digits of n, as many as out has bytes.
+pub fn put_digits(out: &mut [u8], n: u32)
+    ensures { out.new ≡ last_digits (length out.old) n }
 {
     let mut left = n;
-    for at in (0..count).rev() {
+    for at in (0..out.len()).rev() {
         out[at] = b'0' + (left % 10) as u8;
         left /= 10;
     }

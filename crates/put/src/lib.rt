@@ -38,16 +38,15 @@ pub fn put_text(b: Block, out: &mut [u8]) -> Result<usize, Refusal>
     let high = b.high;
     let low = b.low;
     if n <= 64 {
-        text::put_bits(out, high, n);
+        text::put_bits(&mut out[..n], high);
     } else {
-        text::put_bits(out, high, 64);
-        text::put_bits(&mut out[64..], (low as u64) << 32, n - 64);
+        text::put_bits(&mut out[..64], high);
+        text::put_bits(&mut out[64..n], (low as u64) << 32);
     }
     Ok(n)
 }
 
-// As a column at the front of out, 12 bytes. The characters are counted between the two puts: with a branch between
-// them each becomes one store.
+// As a column at the front of out, 12 bytes.
 #[tactic(auto, unfolding(crate::specs::Putting::column_put))]
 pub fn put_column(b: Block, out: &mut [u8]) -> Result<usize, Refusal>
     ensures { (result, out.new) ≡ column_put (bits_of_block b) out.old }
@@ -56,9 +55,8 @@ pub fn put_column(b: Block, out: &mut [u8]) -> Result<usize, Refusal>
         return Err(Refusal::WrongSize);
     }
     out[..8].copy_from_slice(&b.high.to_be_bytes());
-    let n = characters_of(b);
     out[8..12].copy_from_slice(&b.low.to_be_bytes());
-    Ok(n)
+    Ok(characters_of(b))
 }
 
 // A number in decimal digits at the front of out.
@@ -70,6 +68,6 @@ pub fn put_decimal(n: u32, out: &mut [u8]) -> Result<usize, Refusal>
         return Err(Refusal::WrongSize);
     }
     let count = decimal::places(n);
-    decimal::put_digits(out, n, count);
+    decimal::put_digits(&mut out[..count], n);
     Ok(count)
 }

@@ -1,7 +1,7 @@
 // Bits of a machine word put out as characters, top bit first, eight at a time.
 ghost use Rattle.std.specs.Prelude.{◌≡◌, ◌+◌, ◌<◌, ◌≤◌, length, take};
 ghost use Rattle.bits.specs.Binary.{digits_in};
-ghost use Rattle.bits.specs.Texts.{text_of, in_front};
+ghost use Rattle.bits.specs.Texts.{text_of};
 ghost use Rattle.put.specs.Piecewise.{part_put};
 
 // The eight characters of a byte's bits. The product puts a copy of the byte at every ninth place, so that the bit
@@ -25,22 +25,23 @@ fn put_eight(out: &mut [u8], word: u64, at: usize)
 }
 
 // Fewer than eight, one at a time.
-fn put_few(out: &mut [u8], word: u64, count: usize)
-    requires { (count < 8) × (count ≤ length out.old) }
-    ensures { out.new ≡ in_front (text_of (take count (digits_in 64 word))) out.old }
+fn put_few(out: &mut [u8], word: u64)
+    requires { length out.old < 8 }
+    ensures { out.new ≡ text_of (take (length out.old) (digits_in 64 word)) }
 {
-    for at in 0..count {
+    for at in 0..out.len() {
         out[at] = b'0' + ((word << at) >> 63) as u8;
     }
 }
 
-// The first count bits of word at the front of out. The last eight may overlap those before, which are the same there.
-pub fn put_bits(out: &mut [u8], word: u64, count: usize)
-    requires { (count ≤ 64) × (count ≤ length out.old) }
-    ensures { out.new ≡ in_front (text_of (take count (digits_in 64 word))) out.old }
+// The first bits of word, as many as out has bytes. The last eight may overlap those before, which are the same there.
+pub fn put_bits(out: &mut [u8], word: u64)
+    requires { length out.old ≤ 64 }
+    ensures { out.new ≡ text_of (take (length out.old) (digits_in 64 word)) }
 {
+    let count = out.len();
     if count < 8 {
-        put_few(out, word, count);
+        put_few(out, word);
         return;
     }
     for group in 0..count / 8 {

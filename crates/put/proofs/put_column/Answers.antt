@@ -12,6 +12,6 @@ unfolding column_put
 returns c =
     let out = c.args.out.now in
     rw (le-ltb (length out) 12 (omega arith))
-    (ap₂ {C = Result ℕ Refusal × List ℕ} (λ n l. (Ok n, l)) c.characters_of-n.ensures
+    (ap₂ {C = Result ℕ Refusal × List ℕ} (λ n l. (Ok n, l)) c.characters_of.ensures
     (words-front c.args.b out (search rules) (search rules) (c.copy_from_slice.ensures.after ∙ c.to_be_bytes.ensures)
     (c.copy_from_slice-2.ensures.after ∙ c.to_be_bytes-2.ensures)))

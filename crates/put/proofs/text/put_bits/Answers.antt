@@ -1,8 +1,8 @@
 -- A turn puts out one group more. Behind the loop all are put out, or the last eight characters go over some that are.
-use Rattle.std.proofs.Common.{◌≡◌, ◌∙◌, ◌+◌, ◌-◌, ◌*◌, arith}
+use Rattle.std.proofs.Common.{◌≡◌, ◌∙◌, ◌+◌, ◌-◌, ◌*◌, length, arith}
 use Rattle.bits.specs.Binary.{digits_in}
 use Rattle.bits.proofs.Pieces.{length-digits}
-use Rattle.put.specs.Piecewise.{text-more, put_last}
+use Rattle.put.specs.Piecewise.{text-more, text-whole, put_last}
 use Rattle.put.proofs.text.put_bits.Goals as goal
 
 pub loop-group-preserved : goal.loop-group-preserved
@@ -16,10 +16,17 @@ loop-group-preserved c =
 
 pub returns-then-count-gt0 : goal.returns-then-count-gt0
 returns-then-count-gt0 c =
-    let count = c.args.count in
+    let out = c.args.out.now in
+    let count = length out in
     let whole : count - 8 + 8 ≡ count = omega arith in
     let long = length-digits 64 c.args.word in
     c.put_eight-then-count-gt0.ensures
     ∙ rw whole at
-    (put_last (digits_in 64 c.args.word) c.args.out.now (8 * c.loop-group.group) (count - 8) 8 c.loop-group.invariant
-    (omega arith) (omega arith) (omega arith))
+    (put_last (digits_in 64 c.args.word) out (8 * c.loop-group.group) (count - 8) 8 c.loop-group.invariant (omega arith)
+    (omega arith) (omega arith))
+    ∙ text-whole c.args.word out c.requires
+
+pub returns-else-count-gt0 : goal.returns-else-count-gt0
+returns-else-count-gt0 c =
+    let whole : 8 * c.loop-group.group ≡ length c.args.out.now = omega arith in
+    rw whole at c.loop-group.invariant ∙ text-whole c.args.word c.args.out.now c.requires
