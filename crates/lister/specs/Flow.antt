@@ -1,6 +1,6 @@
 -- How the input becomes the listing through the buffers: what is read is answered into the output buffer, behind what
 -- waits there, and what waits goes from the front to the writer.
-use Rattle.std.specs.Prelude.{◌≡◌, List, [], ◌++◌, ℕ, ◌-◌, ◌^◌, ◌<◌, length, drop, Option, IfSome}
+use Rattle.std.specs.Prelude.{◌≡◌, List, [], ◌++◌, ℕ, ◌-◌, ◌^◌, ◌≤◌, ◌<◌, length, drop, Option, IfSome}
 use Rattle.std.specs.Io.KnownBytes.{Appends}
 use Rattle.fields.specs.declared.Field.{Field}
 use Rattle.lines.specs.Machines.{whole}
@@ -18,11 +18,14 @@ pub record Passes (old new : Option (List ℕ)) (waited text waits : List ℕ) :
 pub record Answers (s : Field) (part text : List ℕ) (s' : Field) (left : List ℕ) : Type 0 where
   pub all : (t : List ℕ) → whole ratios s (part ++ t) ≡ text ++ whole ratios s' (left ++ t)
 
--- Some of a part is listed: its answers come behind what waited.
-pub record Adds (s : Field) (part waited : List ℕ) (taken : ℕ) (s' : Field) (waits : List ℕ) : Type 0 where
+-- Something of a part is listed, and taken bytes of it are.
+pub record ListsSome (old new : Option (List ℕ)) (s : Field) (part waited : List ℕ) (taken : ℕ) (s' : Field)
+    (waits : List ℕ) : Type 0 where
+  pub some : 1 ≤ taken
+  pub within : taken ≤ length part
   pub text : List ℕ
   pub answers : Answers s part text s' (drop taken part)
-  pub memory : waits ≡ waited ++ text
+  pub passes : Passes old new waited text waits
 
 -- All of a part is listed.
 pub record ListsPart (old new : Option (List ℕ)) (s : Field) (part waited : List ℕ) (s' : Field) (waits : List ℕ)

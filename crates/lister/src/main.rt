@@ -7,7 +7,7 @@ ghost use Rattle.std.specs.Io.KnownBytes.{Appends};
 ghost use Rattle.lines.specs.Machines.{whole};
 ghost use Rattle.list.specs.Ratios.{ratios};
 ghost use Rattle.lister.specs.declared.TheConstants.{PART};
-ghost use Rattle.lister.specs.Flow.{Adds, ListsPart, Passes, WritesAll, WritesListing};
+ghost use Rattle.lister.specs.Flow.{ListsSome, ListsPart, Passes, WritesAll, WritesListing};
 
 use fields::Field;
 use std::io::{Read, Write};
@@ -72,18 +72,17 @@ impl<W: Write> Output<W> {
         Ok(())
     }
 
-    // Lists as much of a part as there is room for, and tells how much that is.
-    fn list_some(&mut self, part: &[u8]) -> usize
-        requires { (0 < length part.now) × (self.old.held + 130 ≤ PART) }
-        ensures some { (1 ≤ result) × (result ≤ length part.now) }
-        ensures adds { Adds self.old.field part.now (take self.old.held self.old.buffer) result self.new.field
-            (take self.new.held self.new.buffer) }
-        ensures same { self.new.to ≡ self.old.to }
+    // Lists as much of a part as there is room for, which is something, and tells how much that is.
+    fn list_some(&mut self, part: &[u8]) -> Result<usize, Stopped>
+        requires { 0 < length part.now }
+        ensures { IfOk result (λ taken. ListsSome (W.contents self.old.to) (W.contents self.new.to) self.old.field
+            part.now (take self.old.held self.old.buffer) taken self.new.field (take self.new.held self.new.buffer)) }
     {
+        self.make_room()?;
         let listed = list::list(self.field, part, &mut self.buffer[self.held..]);
         self.held += listed.written;
         self.field = listed.field;
-        listed.taken
+        Ok(listed.taken)
     }
 
     // Lists all of a part.
@@ -93,30 +92,19 @@ impl<W: Write> Output<W> {
     {
         let mut left = part;
         while !left.is_empty() {
-            self.make_room()?;
-            let taken = self.list_some(left);
+            let taken = self.list_some(left)?;
             left = &left[taken..];
         }
         Ok(())
     }
 
-    // Lists a last line that has no newline, where there is room for its answer.
-    fn list_last(&mut self)
-        requires { self.old.held + 130 ≤ PART }
-        ensures adds { take self.new.held self.new.buffer
-            ≡ take self.old.held self.old.buffer ++ whole ratios self.old.field [] }
-        ensures same { self.new.to ≡ self.old.to }
-    {
-        self.held += list::finish(self.field, &mut self.buffer[self.held..]).written;
-    }
-
-    // The end of the input: all is written.
+    // The end of the input: a last line that has no newline is listed, and all is written.
     fn end(&mut self) -> Result<(), Stopped>
         ensures { OnOk result (Appends (W.contents self.old.to) (W.contents self.new.to)
             (take self.old.held self.old.buffer ++ whole ratios self.old.field [])) }
     {
         self.make_room()?;
-        self.list_last();
+        self.held += list::finish(self.field, &mut self.buffer[self.held..]).written;
         self.flush()
     }
 

@@ -1,9 +1,10 @@
--- The buffer is lent from what waits on.
+-- The buffer is lent from what waits on, once there is room.
 use Rattle.std.proofs.Common.{arith}
-use Rattle.lister.proofs.Lent.{lists_adds}
+use Rattle.lister.proofs.Lent.{lists_some}
 use Rattle.lister.proofs.Output.list_some.Goals as goal
 
-pub returns-clause-adds : goal.returns-clause-adds
-returns-clause-adds g c =
-    lists_adds c.args.self.now.held c.args.self.now.buffer c.args.self.now.size c.args.part.now (omega arith)
-    c.list-listed.ensures
+pub returns : goal.returns
+returns g c =
+    let room = c.in_ok-make_room.ensures in
+    let now = c.make_room.new.self in
+    lists_some now.held now.buffer now.size (omega arith) room.room room.same room.passes c.list-listed.ensures
