@@ -85,10 +85,7 @@ fn judge_rows(m: &[u8], used: usize, key: Block) -> Result<usize, Refusal>
         let Ok(spelled) = spell::spell(row.numerator, row.denominator) else {
             return Err(Refusal::UnsoundTable);
         };
-        if !is_good(row, spelled) {
-            return Err(Refusal::UnsoundTable);
-        }
-        if falls(i, last, spelled.block) {
+        if !is_good(row, spelled) || falls(i, last, spelled.block) {
             return Err(Refusal::UnsoundTable);
         }
         below = pass(below, i, spelled.block, key);

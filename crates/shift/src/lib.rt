@@ -12,10 +12,7 @@ use tables::Row;
 pub fn insert(m: &mut [u8], i: usize, used: usize, row: Row)
     ensures { m.new ≡ inserted_at stock_rows i used row m.old }
 {
-    if used < i {
-        return;
-    }
-    if m.len() / Row::SIZE <= used {
+    if used < i || m.len() / Row::SIZE <= used {
         return;
     }
     m.copy_within(Row::SIZE * i..Row::SIZE * used, Row::SIZE * (i + 1));
@@ -27,10 +24,7 @@ pub fn insert(m: &mut [u8], i: usize, used: usize, row: Row)
 pub fn remove(m: &mut [u8], i: usize, used: usize)
     ensures { m.new ≡ removed_at stock_rows i used m.old }
 {
-    if used <= i {
-        return;
-    }
-    if m.len() / Row::SIZE < used {
+    if used <= i || m.len() / Row::SIZE < used {
         return;
     }
     m.copy_within(Row::SIZE * (i + 1)..Row::SIZE * used, Row::SIZE * i);
