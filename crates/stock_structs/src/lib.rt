@@ -1,5 +1,5 @@
-// What the calls of the stock table answer, as structs for C. Each begins with the refusal's number; where that isn't
-// 0, all else is.
+// What the calls of the stock table answer, as structs for C, which has no Result and no Option: each begins with the
+// refusal's number, and where that isn't 0, all else is.
 #![tactic(auto)]
 
 mod answers;

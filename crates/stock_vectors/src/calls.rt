@@ -33,7 +33,8 @@ impl Table<'_> {
         println!(rt)
     }
 
-    // n of p/q put in.
+    // n of p/q put in. This and the next each make their own call: a function that is passed the call would need a
+    // clause that it may be called, and these two would be no shorter.
     pub fn put(&mut self, rt: &impl Print, p: u32, q: u32, n: u32) -> io::Result<()> {
         print!(rt; "put {n} of ")?;
         let used = self.used;
@@ -61,7 +62,7 @@ impl Table<'_> {
     }
 }
 
-// The row of p/q.
+// The row of p/q. A table that is only read is lent to one call, so its two parts stay arguments.
 pub fn find(rt: &impl Print, memory: &[u8], used: usize, p: u32, q: u32) -> io::Result<()> {
     print!(rt; "find ")?;
     case(rt, memory, used, p, q)?;
