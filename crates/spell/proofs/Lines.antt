@@ -2,6 +2,8 @@
 use Rattle.std.specs.Prelude.{◌≡◌, refl, false, ◌++◌, ℕ, ◌+◌, ◌*◌, ◌-◌, ◌/◌, ◌%◌, ◌^◌, ◌≤◌, ◌<◌, length, drop}
 use Rattle.std.proofs.Common.{sym, ◌∙◌, ap, mod-eq_of_lt, mul-le-mul_right, arith, length-append, pow-add, pow_mono}
 use Rattle.std.proofs.Math.Arith.{digits_mod}
+use Rattle.std.proofs.lemmas.Nat.{or_shifted}
+use Rattle.std.specs.Int.Bits.{bit_or}
 use Rattle.bits.specs.Strings.{Bits}
 use Rattle.bits.specs.Binary.{number_of, first_bits, digits_in}
 use Rattle.bits.proofs.Numbers.{number_from_lem, number-append}
@@ -27,14 +29,14 @@ module _ {l : Inside} {s : Bits} (line : IsLine l) (is : string_of l ≡ s) (n w
   shifted : (l.number * 2 ^ n) % 2 ^ 128 ≡ l.number * 2 ^ n
   shifted = mod-eq_of_lt (omega (arith, below))
 
-  pub sum_fits : (l.number * 2 ^ n) % 2 ^ 128 + w < 2 ^ 128
-  sum_fits = omega (arith, shifted, below)
+  joined : bit_or ((l.number * 2 ^ n) % 2 ^ 128) w ≡ l.number * 2 ^ n + w
+  joined = rw shifted (or_shifted l.number n w within)
 
   abbrev grown : Inside
-  grown = record { number = (l.number * 2 ^ n) % 2 ^ 128 + w; bits = l.bits + n }
+  grown = record { number = bit_or ((l.number * 2 ^ n) % 2 ^ 128) w; bits = l.bits + n }
 
   pub line_appended : IsLine grown
-  line_appended = record { few = fits; small = rw shifted small }
+  line_appended = record { few = fits; small = rw joined small }
 
   pub string_appended : string_of grown ≡ s ++ digits_in n w
   string_appended =
@@ -48,7 +50,7 @@ module _ {l : Inside} {s : Bits} (line : IsLine l) (is : string_of l ≡ s) (n w
         length-digits,
         number_of-digits n w within,
       ) refl in
-      rw (shifted, ← is) (rw (size, number) at (digits-of-number both))
+      rw (joined, ← is) (rw (size, number) at (digits-of-number both))
 
 -- a line raised to 96 bits is its string's first 64 bits above its next 32
 module _ {l : Inside} {s : Bits} (line : IsLine l) (is : string_of l ≡ s) where

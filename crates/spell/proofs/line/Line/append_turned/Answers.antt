@@ -4,12 +4,12 @@ use Rattle.spell.proofs.Words.{size, turned_within, turned_made}
 use Rattle.spell.proofs.line.Line.append_turned.Goals as goal
 
 pub append-requires-clause-within : goal.append-requires-clause-within
-append-requires-clause-within c = let k = c.ilog2-k.ensures in turned_within k.power_le k.next_power_gt k.bound
+append-requires-clause-within c = let k = c.highest-k.ensures in turned_within k.power_le k.next_power_gt k.bound
 
 pub append-requires-clause-room : goal.append-requires-clause-room
 append-requires-clause-room c =
-    let k = c.ilog2-k.ensures in omega (arith, size k.power_le k.next_power_gt k.bound)
+    let k = c.highest-k.ensures in omega (arith, size k.power_le k.next_power_gt k.bound)
 
 pub returns : goal.returns
 returns c =
-    let k = c.ilog2-k.ensures in rw (c.append.ensures, turned_made k.power_le k.next_power_gt k.bound) refl
+    let k = c.highest-k.ensures in rw (c.append.ensures, turned_made k.power_le k.next_power_gt k.bound) refl

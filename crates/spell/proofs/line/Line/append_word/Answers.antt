@@ -4,12 +4,12 @@ use Rattle.spell.proofs.Words.{size, three_below, word_made}
 use Rattle.spell.proofs.line.Line.append_word.Goals as goal
 
 pub overflow_sub-a : goal.overflow_sub-a
-overflow_sub-a c = let k = c.ilog2-k.ensures in three_below k.power_le k.next_power_gt k.bound
+overflow_sub-a c = let k = c.highest-k.ensures in three_below k.power_le k.next_power_gt k.bound
 
 pub append-requires-clause-room : goal.append-requires-clause-room
 append-requires-clause-room c =
-    let k = c.ilog2-k.ensures in omega (arith, size k.power_le k.next_power_gt k.bound)
+    let k = c.highest-k.ensures in omega (arith, size k.power_le k.next_power_gt k.bound)
 
 pub returns : goal.returns
 returns c =
-    let k = c.ilog2-k.ensures in rw (c.append.ensures, word_made k.power_le k.next_power_gt k.bound) refl
+    let k = c.highest-k.ensures in rw (c.append.ensures, word_made k.power_le k.next_power_gt k.bound) refl
