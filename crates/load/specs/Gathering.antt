@@ -1,5 +1,6 @@
 -- A text's bits gathered into a machine word from its characters, and the parts of a text as parts of its string.
-use Rattle.std.specs.Prelude.{◌≡◌, refl, Bool, true, false, List, [], ◌∷◌, ℕ, zero, suc, ◌+◌, ◌*◌, ◌-◌, ◌%◌, ◌/◌, ◌^◌, ◌≤◌, ◌<◌, eqb, length, get_or, take, drop}
+use Rattle.std.specs.Prelude.{◌≡◌, refl, Bool, true, false, List, [], ◌∷◌, ℕ, zero, suc, ◌+◌, ◌*◌, ◌-◌, ◌%◌, ◌/◌, ◌^◌, ◌≤◌, ◌<◌, min, eqb, length, get_or, take, drop}
+use Rattle.std.proofs.Math.Decide.{dec_lt}
 use Rattle.std.proofs.Common.{sym, ap, ◌∙◌, add-one, arith, pow_mono, take-suc, take-add, take_all, length-take-le, length-drop}
 use Rattle.std.proofs.lemmas.List.{map-append, length-map, get_or-drop}
 use mir.Val.{bool_byte}
@@ -101,3 +102,12 @@ module _ (k : List ℕ) {x y : ℕ} (e : x ≡ top_word (take 64 k)) where
   pub part_loaded : y ≡ top_word (take 32 (drop 64 k))
       → record { high = x; low = y / 4294967296 } ≡ block_of (bits_of_text k)
   part_loaded f = loaded-from (take 32 (drop 64 k)) f (text-take 32 (drop 64 k))
+
+  -- up to 32 characters behind the first 64
+  pub cut-loaded : y ≡ top_word (take (min (length k) 96 - 64) (drop 64 k))
+      → record { high = x; low = y / 4294967296 } ≡ block_of (bits_of_text k)
+  cut-loaded f = by_size (dec_lt 96 (length k))
+    where
+      by_size : Dec (96 < length k) → record { high = x; low = y / 4294967296 } ≡ block_of (bits_of_text k)
+      by_size (yes l) = let most : min (length k) 96 - 64 ≡ 32 = omega arith in part_loaded (rw most at f)
+      by_size (no l) = let all : min (length k) 96 - 64 ≡ length k - 64 = omega arith in rest-loaded (rw all at f)

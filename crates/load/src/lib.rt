@@ -63,16 +63,10 @@ pub fn load_text(k: &[u8]) -> Block
             low: 0,
         };
     }
-    let high = gathered(&k[..64]);
-    if k.len() <= 96 {
-        return Block {
-            high,
-            low: (gathered(&k[64..]) >> 32) as u32,
-        };
-    }
+    let rest = gathered(&k[64..k.len().min(96)]);
     Block {
-        high,
-        low: (gathered(&k[64..96]) >> 32) as u32,
+        high: gathered(&k[..64]),
+        low: (rest >> 32) as u32,
     }
 }
 
