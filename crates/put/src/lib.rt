@@ -17,12 +17,10 @@ mod text;
 fn characters_of(b: Block) -> usize
     ensures { result ≡ length (closed (bits_of_block b)) }
 {
-    let low = b.low;
-    let high = b.high;
-    if low == 0 {
-        64 - u64::trailing_zeros(high | 0x8000_0000_0000_0000) as usize
+    if b.low == 0 {
+        64 - (b.high | 0x8000_0000_0000_0000).trailing_zeros() as usize
     } else {
-        96 - u32::trailing_zeros(low) as usize
+        96 - b.low.trailing_zeros() as usize
     }
 }
 
@@ -35,13 +33,11 @@ pub fn put_text(b: Block, out: &mut [u8]) -> Result<usize, Refusal>
         return Err(Refusal::WrongSize);
     }
     let n = characters_of(b);
-    let high = b.high;
-    let low = b.low;
     if n <= 64 {
-        text::put_bits(&mut out[..n], high);
+        text::put_bits(&mut out[..n], b.high);
     } else {
-        text::put_bits(&mut out[..64], high);
-        text::put_bits(&mut out[64..n], (low as u64) << 32);
+        text::put_bits(&mut out[..64], b.high);
+        text::put_bits(&mut out[64..n], (b.low as u64) << 32);
     }
     Ok(n)
 }
