@@ -2,7 +2,7 @@
 // and writes in large parts and holds two buffers, however long the input and its lines are.
 #![tactic(auto)]
 
-ghost use Rattle.std.specs.Prelude.{◌≡◌, [], ◌++◌, ◌+◌, ◌≤◌, ◌<◌, length, take, IfOk, OnOk};
+ghost use Rattle.std.specs.Prelude.{◌≡◌, [], ◌++◌, ◌+◌, ◌≤◌, ◌<◌, length, IfOk, OnOk};
 ghost use Rattle.std.specs.Io.KnownBytes.{Appends};
 ghost use Rattle.lines.specs.Machines.{whole};
 ghost use Rattle.list.specs.Ratios.{ratios};
@@ -45,10 +45,12 @@ struct Output<W> {
 }
 
 impl<W: Write> Output<W> {
+    ghost use Rattle.lister.specs.Waits.{waits};
+
     // Writes what waits.
     fn flush(&mut self) -> Result<(), Stopped>
         ensures written { OnOk result (Appends (W.contents self.old.to) (W.contents self.new.to)
-            (take self.old.held self.old.buffer)) }
+            (waits self.old)) }
         ensures empty { OnOk result (self.new.held ≡ 0) }
         ensures same { self.new.field ≡ self.old.field }
     {
@@ -63,7 +65,7 @@ impl<W: Write> Output<W> {
     fn make_room(&mut self) -> Result<(), Stopped>
         ensures room { OnOk result (self.new.held + 130 ≤ PART) }
         ensures passes { OnOk result (Passes (W.contents self.old.to) (W.contents self.new.to)
-            (take self.old.held self.old.buffer) [] (take self.new.held self.new.buffer)) }
+            (waits self.old) [] (waits self.new)) }
         ensures same { self.new.field ≡ self.old.field }
     {
         if self.buffer.len() - self.held < list::ROOM {
@@ -76,7 +78,7 @@ impl<W: Write> Output<W> {
     fn list_some(&mut self, part: &[u8]) -> Result<usize, Stopped>
         requires { 0 < length part.now }
         ensures { IfOk result (λ taken. ListsSome (W.contents self.old.to) (W.contents self.new.to) self.old.field
-            part.now (take self.old.held self.old.buffer) taken self.new.field (take self.new.held self.new.buffer)) }
+            part.now (waits self.old) taken self.new.field (waits self.new)) }
     {
         self.make_room()?;
         let listed = list::list(self.field, part, &mut self.buffer[self.held..]);
@@ -88,7 +90,7 @@ impl<W: Write> Output<W> {
     // Lists all of a part.
     fn list_part(&mut self, part: &[u8]) -> Result<(), Stopped>
         ensures { OnOk result (ListsPart (W.contents self.old.to) (W.contents self.new.to) self.old.field part.now
-            (take self.old.held self.old.buffer) self.new.field (take self.new.held self.new.buffer)) }
+            (waits self.old) self.new.field (waits self.new)) }
     {
         let mut left = part;
         while !left.is_empty() {
@@ -101,7 +103,7 @@ impl<W: Write> Output<W> {
     // The end of the input: a last line that has no newline is listed, and all is written.
     fn end(&mut self) -> Result<(), Stopped>
         ensures { OnOk result (Appends (W.contents self.old.to) (W.contents self.new.to)
-            (take self.old.held self.old.buffer ++ whole ratios self.old.field [])) }
+            (waits self.old ++ whole ratios self.old.field [])) }
     {
         self.make_room()?;
         self.held += list::finish(self.field, &mut self.buffer[self.held..]).written;
@@ -112,7 +114,7 @@ impl<W: Write> Output<W> {
     // a number that no run uses up.
     fn list_all<R: Read>(&mut self, from: &mut R, input: &mut [u8]) -> Result<(), Stopped>
         ensures { OnOk result (WritesAll (R.remaining from.old) (length input.old) (W.contents self.old.to)
-            (W.contents self.new.to) (take self.old.held self.old.buffer) self.old.field) }
+            (W.contents self.new.to) (waits self.old) self.old.field) }
     {
         for _ in 0..u64::MAX {
             let n = from.read(input).map_err(Stopped::Reading)?;

@@ -1,6 +1,7 @@
 -- A turn lists some of what is left.
-use Rattle.std.proofs.Common.{◌++◌, take}
+use Rattle.std.proofs.Common.{◌++◌}
 use Rattle.bits.proofs.Memory.{lent_part}
+use Rattle.lister.specs.Waits.{waits}
 use Rattle.lister.proofs.Flow.{answers_left, passes_both}
 use Rattle.lister.proofs.Output.list_part.Goals as goal
 
@@ -11,5 +12,5 @@ loop-left-preserved g c =
     record {
       text = so_far.text ++ more.text;
       answers = rw lent_part (answers_left so_far.answers more.answers);
-      passes = passes_both {x = take c.list_some.new.self.held c.list_some.new.self.buffer} so_far.passes more.passes;
+      passes = passes_both {x = waits c.list_some.new.self} so_far.passes more.passes;
     }
