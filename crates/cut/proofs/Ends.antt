@@ -1,5 +1,6 @@
 -- How many characters are kept of the first n: up to the last 1, or the first alone where there is none.
-use Rattle.std.specs.Prelude.{◌≡◌, refl, ◌≢◌, false, true, List, [], ◌∷◌, ◌++◌, None, Some, ℕ, suc, ◌+◌, ◌≤◌, ◌<◌, eqb, length, get_or, take, min}
+use Rattle.std.specs.Prelude.{◌≡◌, refl, ◌≢◌, false, true, List, [], ◌∷◌, ◌++◌, None, Some}
+use Rattle.std.specs.Prelude.{ℕ, suc, ◌+◌, ◌≤◌, ◌<◌, eqb, length, get_or, take, min}
 use Rattle.std.proofs.Common.{sym, ◌∙◌, ap, inr, arith, eq-eqb, ne_eqb, length-take, length-take-le, take-suc}
 use Rattle.std.proofs.Math.Decide.{dec_lt}
 use Rattle.std.proofs.lemmas.List.{length-map, get_or-take, get_or_past, take_min}
@@ -42,7 +43,8 @@ module _ (t : List ℕ) where
     dropped : 1 ≤ m → m ≤ length t → closed (take m bits) ≡ take m bits → m ≡ length (closed bits)
     dropped h l e =
         let long : length (take m bits) ≡ m = length-take-le m bits (omega (arith, size)) in
-        let all : closed bits ≡ take m bits = closed_equal bits (take m bits) (omega (arith, size)) (omega arith) same ∙ e in
+        let all : closed bits ≡ take m bits =
+        closed_equal bits (take m bits) (omega (arith, size)) (omega arith) same ∙ e in
         rw all (sym long)
 
   kept_some : (i : ℕ) → IsLastOne t (Some i) → i + 1 ≡ length (closed bits)

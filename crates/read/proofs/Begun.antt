@@ -21,11 +21,15 @@ infinity = record { numerator = 1; denominator = 0 }
 
 reads_one : (s : Bits) → Reads (true ∷ s) 1 false infinity zero
 unfolding found_in
-reads_one s = record { some = omega arith; within = refl; found = refl; value = forward_value (read words1983 false s) }
+reads_one s =
+    let l = read words1983 false s in
+    record { some = omega arith; within = refl; found = refl; value = forward_value l }
 
 reads_zero : (s : Bits) → Reads (false ∷ s) 1 true zero infinity
 unfolding found_in
-reads_zero s = record { some = omega arith; within = refl; found = refl; value = forward_value (0 ∷ read words1983 true (turn s)) }
+reads_zero s =
+    let l = 0 ∷ read words1983 true (turn s) in
+    record { some = omega arith; within = refl; found = refl; value = forward_value l }
 
 digits_top : (n v : ℕ) → digits_in (suc n) v ≡ eqb (v / 2 ^ n % 2) 1 ∷ digits_in n v
 unfolding digits_in

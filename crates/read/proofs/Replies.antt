@@ -47,7 +47,8 @@ found-outcome s = by_test (is_over (value_in s))
     by_test false = refl
 
 -- a block holds a string of up to 96 characters whole, extended by zeros
-block-outcome : (s : strings.Bits) → length s ≤ 96 → found_as (found_of (bits_of_block (block_of s))) ≡ in_range (value_in s)
+block-outcome : (s : strings.Bits) → length s ≤ 96
+    → found_as (found_of (bits_of_block (block_of s))) ≡ in_range (value_in s)
 block-outcome s h =
     let held = bits_of_block (block_of s) in
     found-outcome held ∙ ap in_range (value_same words1983 held s (block-whole s h))
@@ -56,7 +57,8 @@ block-outcome s h =
 abbrev pub Handed : Result Fraction ℕ → Result Fraction Refusal → Type 0
 Handed r a = MatchResult r (λ x. a ≡ Ok x) (λ used. IsErrAnd a (λ e. e ≡ OutOfRange))
 
-handed-as : (r : Result Fraction ℕ) (a : Result Fraction Refusal) → Handed r a → leaves (answered 2 terms_as a) [] ≡ found_as r
+handed-as : (r : Result Fraction ℕ) (a : Result Fraction Refusal) → Handed r a
+    → leaves (answered 2 terms_as a) [] ≡ found_as r
 handed-as (Ok x) a h = rw h refl
 handed-as (Err used) (Ok x) h = absurd h
 handed-as (Err used) (Err e) h = rw h refl

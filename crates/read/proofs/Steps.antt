@@ -1,6 +1,7 @@
 -- Reading by forward convergents, a word at a time: what is left to read from a place on gives what the whole string
 -- gives.
-use Rattle.std.specs.Prelude.{◌≡◌, refl, Bool, true, not, ℕ, ◌+◌, ◌*◌, ◌-◌, ◌≤◌, ◌<◌, length, Option, Some, None, Result, Ok, Err}
+use Rattle.std.specs.Prelude.{◌≡◌, refl, Bool, true, not, ℕ, ◌+◌, ◌*◌, ◌-◌, ◌≤◌, ◌<◌, length}
+use Rattle.std.specs.Prelude.{Option, Some, None, Result, Ok, Err}
 use Rattle.std.specs.Result.{MatchResult}
 use Rattle.std.proofs.Common.{sym, ◌∙◌, ap, inl, inr, mul-le-mul_left, mul-le-mul_right, arith}
 use Rattle.std.proofs.Math.Bool.{false, cond}
@@ -61,13 +62,15 @@ module _ {s : Bits} {used : ℕ} {z : Bool} {u v : Fraction} (at : Reads s used 
   pub read-end : Ok None ≡ taken_from z (left_at s used z) → Ok u ≡ found_of s
   unfolding found_of
   read-end t =
-      let e : quotients_at words1983 s used z ≡ [] = quotients-end words1983 s used z (told z (left_at s used z) (Ok None) t) in
+      let e : quotients_at words1983 s used z ≡ [] =
+      quotients-end words1983 s used z (told z (left_at s used z) (Ok None) t) in
       let value : ratio_of u ≡ value_in s = rw e at at.value in
       rw (← value, at.within) refl
 
   -- the convergent of the next quotient is over the limit, and so is the value
   read_over : ended z (left_at s used z) ≡ false
-      → is_over (convergent (first_number z (left_at s used z)) (ratio_of u) (ratio_of v)) ≡ true → Err used ≡ found_of s
+      → is_over (convergent (first_number z (left_at s used z)) (ratio_of u) (ratio_of v)) ≡ true
+      → Err used ≡ found_of s
   unfolding found_of found_from
   read_over g o =
       let a = first_number z (left_at s used z) in
@@ -75,8 +78,10 @@ module _ {s : Bits} {used : ℕ} {z : Bool} {u v : Fraction} (at : Reads s used 
       let next = used + length (words1983.word a) in
       let rest = quotients_at words1983 s next (not z) in
       let e = quotients-next words1983 s used z g in
-      let (m, n) = forward_grows (not z) rest w (ratio_of u) (read-spells words1983 (not z) (left_at s next (not z))).quotients in
-      let over : is_over (value_in s) ≡ true = rw (rw e at at.value) at (grown_over w (forward w (ratio_of u) rest) o m n) in
+      let spelt = read-spells words1983 (not z) (left_at s next (not z)) in
+      let (m, n) = forward_grows (not z) rest w (ratio_of u) spelt.quotients in
+      let over : is_over (value_in s) ≡ true =
+      rw (rw e at at.value) at (grown_over w (forward w (ratio_of u) rest) o m n) in
       let found : used ≡ found_in s = rw (e, o) at at.found in
       rw (over, ← found) refl
 
@@ -108,7 +113,15 @@ module _ {s : Bits} {used : ℕ} {z : Bool} {u v : Fraction} (at : Reads s used 
         let size_num : f.numerator ≡ q.value * u.numerator + v.numerator = ap (λ (r : Ratio). r.num) m in
         let size_den : f.denominator ≡ q.value * u.denominator + v.denominator = ap (λ (r : Ratio). r.den) m in
         record {
-          some = omega (arith, size_num, size_den, mul-le-mul_right u.numerator g.positive, mul-le-mul_right u.denominator g.positive, at.some);
+          some =
+              omega (
+                arith,
+                size_num,
+                size_den,
+                mul-le-mul_right u.numerator g.positive,
+                mul-le-mul_right u.denominator g.positive,
+                at.some,
+              );
           within = ap is_over m ∙ o;
           found = rw m (rw (e, o, ← g.count) at at.found);
           value = rw m (rw e at at.value);
@@ -135,13 +148,14 @@ few p h = by_kind (is_turned p.due) h
     by_kind false h = omega arith
 
 -- a turned word begins within the 96 characters, and no word has more than 64, or none
-pub goes_on : (b : Block) (p : Place) (q : Quotient) → Ok (Some q) ≡ taken_at (bits_of_block b) p → p.used ≤ most_at p.due
-    → (k : Kind) → is_turned k ≡ not (is_turned p.due)
+pub goes_on : (b : Block) (p : Place) (q : Quotient) → Ok (Some q) ≡ taken_at (bits_of_block b) p
+    → p.used ≤ most_at p.due → (k : Kind) → is_turned k ≡ not (is_turned p.due)
     → (p.used + q.characters ≤ most_at k)
     × (2 * (96 - (p.used + q.characters)) + cond (is_turned k) 0 1 < left_from p)
 goes_on b p q t h k e = rw e (by_kind (is_turned p.due) t h)
   where
-    by_kind : (z : Bool) → Ok (Some q) ≡ taken_from z (left_at (bits_of_block b) p.used z) → p.used ≤ cond z 223 159
+    by_kind : (z : Bool) → Ok (Some q) ≡ taken_from z (left_at (bits_of_block b) p.used z)
+        → p.used ≤ cond z 223 159
         → (p.used + q.characters ≤ cond (not z) 223 159)
         × (2 * (96 - (p.used + q.characters)) + cond (not z) 0 1 < 2 * (96 - p.used) + cond z 0 1)
     by_kind true t h =
@@ -150,4 +164,5 @@ goes_on b p q t h k e = rw e (by_kind (is_turned p.due) t h)
         rw (block-length b) at (turned_within (bits_of_block b) p.used (told true _ (Ok (Some q)) t).going) in
         (omega arith, omega arith)
     by_kind false t h =
-        let (l, m) = taken_size false (left_at (bits_of_block b) p.used false) q t in (omega arith, omega arith)
+        let (l, m) = taken_size false (left_at (bits_of_block b) p.used false) q t in
+        (omega arith, omega arith)

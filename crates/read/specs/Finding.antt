@@ -1,6 +1,7 @@
 -- Reading by forward convergents: the first that is over the limit settles that the value is, at the quotient that
 -- caused it.
-use Rattle.std.specs.Prelude.{Bool, true, false, cond, List, [], ◌∷◌, ℕ, ◌+◌, length, Option, Some, None, Result, Ok, Err}
+use Rattle.std.specs.Prelude.{Bool, true, false, cond, List, [], ◌∷◌, ℕ, ◌+◌, length}
+use Rattle.std.specs.Prelude.{Option, Some, None, Result, Ok, Err}
 use Rattle.bits.specs.Strings.{Bits, turn}
 use Rattle.families.specs.Words.{word_of}
 use Rattle.families.proofs.Published.{words1983}

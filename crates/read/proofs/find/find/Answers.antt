@@ -46,9 +46,11 @@ loop-word-smaller c =
 pub loop-word-preserved : goal.loop-word-preserved
 loop-word-preserved c =
     let t = taken (goal.at.loop-word-preserved c).In-Some in
+    let now = c.loop-word.invariant in
+    let next = read-on now.reads c.in-Some.word t c.in-Some-next.w c.in-Some-next.ensures in
     record {
-      few = (goes_on c.args.b c.loop-word.place c.in-Some.word t c.loop-word.invariant.few c.other.result c.other.ensures).0;
-      reads = rw c.other.ensures (read-on c.loop-word.invariant.reads c.in-Some.word t c.in-Some-next.w c.in-Some-next.ensures);
+      few = (goes_on c.args.b c.loop-word.place c.in-Some.word t now.few c.other.result c.other.ensures).0;
+      reads = rw c.other.ensures next;
     }
 
 pub returns : goal.returns
