@@ -64,18 +64,18 @@ impl Line {
         self.bits += n;
     }
 
-    // The word of a number a whose highest binary digit is 2^k is a + 2^(2k+1) - 3 * 2^k, in 2k+1 bits.
+    // The word of a number a whose highest binary digit is 2^k: k ones, a zero and the k digits behind the highest.
     pub fn append_word(&mut self, a: u32)
         requires some { 1 ≤ a }
         requires room { length self.old + length (word_of a) ≤ 96 }
         ensures { self.new ≡ self.old ++ word_of a }
     {
         let k = highest(a);
-        let n = 2 * k + 1;
-        self.append((a as u64) + (1 << n) - (3 << k), n);
+        let top = 1u64 << k;
+        self.append(2 * ((top - 1) << k) + (a as u64 - top), 2 * k + 1);
     }
 
-    // The turned word is 2^(2k+1) - 1 less that.
+    // The turned word is 2^(2k+1) - 1 less that, which is 3 * 2^k - 1 - a.
     pub fn append_turned(&mut self, a: u32)
         requires some { 1 ≤ a }
         requires room { length self.old + length (word_of a) ≤ 96 }
