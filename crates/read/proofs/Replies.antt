@@ -21,7 +21,6 @@ use Rattle.outcomes.specs.Reading.{terms, read_text, read_column}
 use Rattle.outcomes.specs.Refusals.{out_of_range}
 use Rattle.refusals.specs.declared.Refusal.{Refusal}
 use Rattle.refusals.specs.declared.Refusal.TheVariants.{OutOfRange}
-use Rattle.refusals.specs.Numbers.{number_of}
 use Rattle.refusals.specs.Answers.{answered, terms_as}
 use Rattle.scan.specs.Judging.{judgement}
 use Rattle.scan.proofs.Callers.{told_on, told-key}
@@ -84,9 +83,11 @@ module _ (c : List ℕ) where
   abbrev column_value : Ratio
   column_value = value_in (bits_of_bytes c)
 
-  pub column_wrong : (f : Refusal) → Err f ≡ loaded c → refuses (number_of f) 2 [] ≡ read_column c
+  pub column_wrong : (a : Result Fraction Refusal) (f : Refusal) → Err f ≡ loaded c → IsErrAnd a (λ e. e ≡ f)
+      → leaves (answered 2 terms_as a) [] ≡ read_column c
   unfolding read_column
-  column_wrong = told_wrong c (out_of_range column_value ∷ []) (terms column_value) [] []
+  column_wrong (Ok x) f e h = absurd h
+  column_wrong (Err d) f e h = rw h (told_wrong c (out_of_range column_value ∷ []) (terms column_value) [] [] f e)
 
   pub column-found : (b : Block) → Ok b ≡ loaded c → (r : Result Fraction ℕ) → r ≡ found_of (bits_of_block b)
       → (a : Result Fraction Refusal) → Handed r a → leaves (answered 2 terms_as a) [] ≡ read_column c
@@ -94,3 +95,6 @@ module _ (c : List ℕ) where
   column-found b e r f a h =
       let (m, (l, o)) = told-block c (out_of_range column_value ∷ []) (terms column_value) [] [] b e in
       handed-as r a h ∙ rw (f, l) (block-outcome (bits_of_bytes c) (omega (arith, bits-length c)) ∙ o)
+
+-- what the proofs of the two calls are found by
+pub ruleset replies = (text_faulty, text-found, column_wrong, column-found)

@@ -12,6 +12,7 @@ use refusals::Refusal;
 mod find;
 
 // The ratio of a text key, in lowest terms.
+#[tactic(auto, using(crate::proofs::Replies::replies))]
 pub fn read_text(k: &[u8]) -> Result<Fraction, Refusal>
     ensures { leaves (answered 2 terms_as result) [] ≡ read_text k.now }
 {
@@ -20,6 +21,7 @@ pub fn read_text(k: &[u8]) -> Result<Fraction, Refusal>
 }
 
 // The ratio of a column, in lowest terms. Zeros behind are fill.
+#[tactic(auto, using(crate::proofs::Replies::replies))]
 pub fn read_column(column: &[u8]) -> Result<Fraction, Refusal>
     ensures { leaves (answered 2 terms_as result) [] ≡ read_column column.now }
 {
