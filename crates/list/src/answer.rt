@@ -81,7 +81,8 @@ fn refuse(refusal: Refusal, out: &mut [u8; ROOM]) -> usize
     8 + put_number(refusal.number(), b'\n', &mut out[8..])
 }
 
-// The ratio, its key and the count.
+// The ratio, its key and the count. The place is counted, since a put that gave back the rest of the buffer would need
+// a clause on what it lends.
 fn accept(entry: Entry, out: &mut [u8; ROOM]) -> usize
     ensures { Puts (entry_line entry) out.old result out.new }
 {

@@ -34,6 +34,7 @@ impl fmt::Display for Stopped {
 }
 
 // The writer, the answers that wait for it at the front of a buffer, and the field of the line that isn't ended yet.
+// The lister asks for no memory, so the buffer is an array, with a count beside it.
 #[derive(Drop)]
 struct Output<W> {
     to: W,
