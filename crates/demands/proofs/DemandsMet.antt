@@ -53,17 +53,20 @@ judged k = clear-first (key_refusals k []) refl
 accepted : (k : List ℕ) → Canonical (bits_of_text k) → length k ≤ 96 → text_of (bits_of_text k) ≡ k
     → first_of (key_refusals k []) ≡ 0
 accepted k c h e =
-    rw e at (clear-number (key_refusals (text_of (bits_of_text k)) []) (text-clear (bits_of_text k) c (rw length-map h)))
+    let clear = text-clear (bits_of_text k) c (rw length-map h) in
+    rw e at (clear-number (key_refusals (text_of (bits_of_text k)) []) clear)
 
 checked : Checked
-unfolding write_text write_column read_text read_column column_to_text text_to_column compare_text cut_text start_text step_text
+unfolding write_text write_column read_text read_column column_to_text text_to_column compare_text cut_text
+    start_text step_text
 checked = record {
   keys = λ k. (λ good. clear-canonical k (judged k good), λ (c, (h, e)). accepted k c h e);
   write-text = λ p q m. refuses-first _ (counts p q) _ (in_front (text_of (key_of words1983 p q)) m);
   write-column = λ p q m. refuses-first _ (counts p q) _ (in_front (column_of (key_of words1983 p q)) m);
   read-text = λ k. refuses-first _ (terms (value_of_key words1983 (bits_of_text k))) _ [];
   read-column = λ c. refuses-first _ (terms (value_of_key words1983 (bits_of_bytes c))) _ [];
-  column-to-text = λ c m. let k = closed (bits_of_bytes c) in refuses-first _ (length k ∷ []) _ (in_front (text_of k) m);
+  column-to-text = λ c m.
+      let k = closed (bits_of_bytes c) in refuses-first _ (length k ∷ []) _ (in_front (text_of k) m);
   text-to-column = λ k m. refuses-first _ [] _ (in_front (column_of (bits_of_text k)) m);
   lowest-terms = λ p q. unfold reduce in refuses-first (zero_denominator q ∷ []) (terms (lowest_terms p q)) [] [];
   compare = λ j k. refuses-first _ (standing (bits_of_text j) (bits_of_text k) ∷ []) _ [];

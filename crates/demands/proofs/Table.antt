@@ -43,7 +43,8 @@ abbrev printed : Row → Bits × Ratio
 printed r = (bits_of r.key, r.ratio)
 
 run : map found table ≡ map printed table
-unfolding table bits_of key_of form_of usual divided_from word_of digits_after_one digits_from first_number read read_from
+unfolding table bits_of key_of form_of usual divided_from word_of digits_after_one digits_from first_number
+    read read_from
 run = refl
 
 -- what is found and what is printed at each row of a table

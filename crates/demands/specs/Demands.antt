@@ -1,5 +1,5 @@
 -- The three demands, in their own words. Only definitions are imported: what a key and its value are is in the crate
--- `keys`, file Keys; what each call gives and leaves is in `outcomes`. The term that meets the demands is in DemandsMet.
+-- `keys`, file Keys; what each call gives and leaves is in `outcomes`. The term that meets them is in DemandsMet.
 use Rattle.std.specs.Prelude.{◌≡◌, Bool, ◌⊎◌, ◌↔◌, List, [], ◌∷◌, ℕ, ◌*◌, ◌-◌, ◌^◌, ◌≤◌, ◌<◌, length, replicate}
 use Rattle.bits.specs.Strings.{Bits, ◌≺◌}
 use Rattle.bits.specs.Binary.{bits_of_bytes}
@@ -33,7 +33,8 @@ pub record Checked : Type 0 where
   pub keys : (k : List ℕ) → (first_of (key_refusals k []) ≡ 0)
       ↔ (Canonical (bits_of_text k) × ((length k ≤ 96) × (text_of (bits_of_text k) ≡ k)))
   pub write-text : (p q : ℕ) (m : List ℕ) → Refuses (write_text p q m) (zero_denominator q ∷ short_buffer 96 m ∷ []) m
-  pub write-column : (p q : ℕ) (m : List ℕ) → Refuses (write_column p q m) (zero_denominator q ∷ short_buffer 12 m ∷ []) m
+  pub write-column : (p q : ℕ) (m : List ℕ)
+      → Refuses (write_column p q m) (zero_denominator q ∷ short_buffer 12 m ∷ []) m
   pub read-text : (k : List ℕ)
       → Refuses (read_text k) (key_refusals k (out_of_range (value_of_key words1983 (bits_of_text k)) ∷ [])) []
   pub read-column : (c : List ℕ)
@@ -58,7 +59,8 @@ pub record Written (p q : ℕ) (k : Bits) : Type 0 where
       → write_column p q m ≡ gives (length k ∷ count_of (form_of p q) ∷ []) (in_front (column_of k) m)
   pub sizes : (length k ≤ 96) × (count_of (form_of p q) ≤ 46)
   -- Reading it gives lowest terms.
-  pub back : let r = gives (terms (lowest_terms p q)) [] in (read_text (text_of k) ≡ r) × (read_column (column_of k) ≡ r)
+  pub back : let r = gives (terms (lowest_terms p q)) [] in
+      (read_text (text_of k) ≡ r) × (read_column (column_of k) ≡ r)
 
 -- Demand 2. Of p/q with numerator and denominator of at most 32 bits, of text and column, and of keys over any family.
 pub record Faithful : Type 0 where

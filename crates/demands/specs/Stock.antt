@@ -1,7 +1,8 @@
--- What is promised of the stock table, in its own words. Only definitions are imported: what its calls give and leave is
--- in `outcomes`, file Stocking; what rows are and how they change is in `tables`; what a history of calls is, in
+-- What is promised of the stock table, in its own words. Only definitions are imported: what its calls give and leave
+-- is in `outcomes`, file Stocking; what rows are and how they change is in `tables`; what a history of calls is, in
 -- `histories`. The term that meets it is in StockMet.
-use Rattle.std.specs.Prelude.{◌≡◌, false, ◌↔◌, List, [], ◌∷◌, ◌++◌, ℕ, ◌+◌, ◌*◌, ◌-◌, ◌≤◌, ◌<◌, length, get_or, drop, replicate}
+use Rattle.std.specs.Prelude.{◌≡◌, false, ◌↔◌, List, [], ◌∷◌, ◌++◌, ℕ, ◌+◌, ◌*◌, ◌-◌, ◌≤◌, ◌<◌}
+use Rattle.std.specs.Prelude.{length, get_or, drop, replicate}
 use Rattle.bits.specs.Strings.{◌≺◌}
 use Rattle.bits.specs.Texts.{Bytes}
 use Rattle.families.specs.Families.{Family}
@@ -15,7 +16,8 @@ use Rattle.tables.specs.Stocks.{held_of}
 use Rattle.tables.specs.Changes.{Of, NoneOf, AllBelow, PutIn, TakenOut, RowOf, FirstFrom}
 use Rattle.outcomes.specs.Outcomes.{Outcome, Refusal, gives, first_of}
 use Rattle.outcomes.specs.Refusals.{zero_denominator}
-use Rattle.outcomes.specs.Stocking.{wrong_table, unsound_table, no_quantity, no_such_ratio, too_few, large_sum, table_full}
+use Rattle.outcomes.specs.Stocking.{wrong_table, unsound_table, no_quantity, no_such_ratio, too_few, large_sum}
+use Rattle.outcomes.specs.Stocking.{table_full}
 use Rattle.outcomes.specs.Stocking.{Call, put_in, take_out, find, list_from, stock_call}
 use Rattle.histories.specs.Histories.{State, empty_in, rows_of, after, answers, total, put_by, taken_by}
 use Rattle.histories.specs.Histories.{Under, Zeros, AllNumbers}
@@ -35,8 +37,9 @@ abbrev order : ℕ → ℕ → List ℕ → List Refusal → List Refusal
 order q used m more = wrong_table stock_rows m ∷ unsound_table stock_rows used m ∷ zero_denominator q ∷ more
 
 pub record StockChecked (p q n used : ℕ) (m : List ℕ) : Type 0 where
-  pub put : let held = held_of p q (rows used m) in Refuses (call (put_in p q n) used m)
-      (order q used m (no_quantity n ∷ large_sum held n ∷ table_full held (length (rows used m)) (room_of stock_rows m) ∷ [])) m
+  pub put : let held = held_of p q (rows used m) in
+      let full = table_full held (length (rows used m)) (room_of stock_rows m) in
+      Refuses (call (put_in p q n) used m) (order q used m (no_quantity n ∷ large_sum held n ∷ full ∷ [])) m
   pub take : let held = held_of p q (rows used m) in Refuses (call (take_out p q n) used m)
       (order q used m (no_quantity n ∷ no_such_ratio held ∷ too_few held n ∷ [])) m
   pub found : Refuses (call (find p q) used m) (order q used m (no_such_ratio (held_of p q (rows used m)) ∷ [])) m
@@ -44,8 +47,8 @@ pub record StockChecked (p q n used : ℕ) (m : List ℕ) : Type 0 where
   -- 2 is for memory that isn't 1 to 2,048 whole rows and nothing over.
   pub size : ((wrong_table stock_rows m).1 ≡ false)
       ↔ ((length m ≡ w * room_of stock_rows m) × ((1 ≤ room_of stock_rows m) × (room_of stock_rows m ≤ 2048)))
-  -- 16 is for more rows than there is room for, and rows that aren't sound: one of no denominator, of no quantity or not
-  -- in lowest terms, or one that isn't below all behind it.
+  -- 16 is for more rows than there is room for, and rows that aren't sound: one of no denominator, of no quantity or
+  -- not in lowest terms, or one that isn't below all behind it.
   pub sound : ((unsound_table stock_rows used m).1 ≡ false) ↔ ((used ≤ room_of stock_rows m) × Sound (rows used m))
 
 -- What an accepted call gives and leaves: u, i and h are the rows used, the row's index and its quantity.
