@@ -4,13 +4,6 @@ use Rattle.std.specs.Prelude.{refl, eqb}
 use Rattle.load.specs.Gathering.{behind, behind-size, behind-at, byte-small, gathered-fits, gathered-more, gathered-all}
 use Rattle.load.proofs.gathered.Goals as goal
 
-pub loop-c-init : goal.loop-c-init
-loop-c-init c =
-    let k = c.args.k.now in
-    let p = c.gather-front.result.passed in
-    let place : length k - length (behind k p) + 0 ≡ p = omega (arith, behind-size k p) in
-    rw place c.gather-front.ensures.1
-
 pub overflow_mul-bits : goal.overflow_mul-bits
 overflow_mul-bits c =
     let k = c.args.k.now in
