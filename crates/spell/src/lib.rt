@@ -20,8 +20,8 @@ pub struct Spelled {
     pub divisor: u32,
 }
 
-// The words of d/r, the turned one first, after what line holds. Each turn of the loop appends a turned word and a word:
-// no flag says which is due, and a ratio that has ended has no case of its own.
+// The words of d/r, the turned one first, after what line holds. Each turn of the loop appends a turned word and a
+// word: no flag says which is due, and a ratio that has ended has no case of its own.
 fn go_on(mut d: u32, mut r: u32, mut line: Line, mut quotients: u32) -> Spelled
     requires { Room d r line quotients }
     ensures { result ≡ spelt (line ++ words_to_come d r) (quotients + length (to_come d r)) (gcd d r) }

@@ -1,5 +1,5 @@
 // Writing the key of a ratio, as text and as a column. Each of the two takes its three steps itself: one function over
-// the step that puts out would need clauses on what a call of that step asks, gives and leaves in memory, which are longer.
+// the step that puts out would need clauses on what a call of it asks, gives and leaves in memory, which are longer.
 #![tactic(auto)]
 
 ghost use Rattle.std.specs.Prelude.{◌≡◌};
