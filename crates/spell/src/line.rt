@@ -24,7 +24,8 @@ impl Model for Line {
 }
 
 // The k for which 2^k is the highest binary digit of a. Setting the lowest digit doesn't change it: so the compiler has
-// no case for 0 and sees that a word's shifts stay below 64. Without that a key of wheels took a fifth more instructions.
+// no case for 0 and sees that a word's shifts stay below 64. Without that, keys of wheels take about a fifth more
+// instructions.
 fn highest(a: u32) -> u32
     requires { 1 ≤ a }
     ensures power_le { 2 ^ result ≤ a }
