@@ -1,13 +1,7 @@
--- A fault and a short buffer are handed on; each outcome is what judging, loading and putting out gave, by
--- `proofs/Replies.antt`.
+-- Of a key the outcome is what loading and putting out gave, by `proofs/Replies.antt`; a short buffer is handed on.
 use Rattle.std.proofs.lemmas.Result.{err_from_is_err_and}
-use Rattle.pack.proofs.Replies.{text_faulty, column-told}
+use Rattle.pack.proofs.Replies.{column-told}
 use Rattle.pack.proofs.text_to_column.Goals as goal
-
-pub returns-in_err-judge : goal.returns-in_err-judge
-returns-in_err-judge c =
-    let p = err_from_is_err_and c.from_residual.result c.from_residual.ensures.1 in
-    rw (p.1, p.2) (text_faulty _ _ _ c.in_err-judge.ensures)
 
 pub returns-in_err-put_column : goal.returns-in_err-put_column
 returns-in_err-put_column c =
