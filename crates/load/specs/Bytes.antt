@@ -54,13 +54,15 @@ column_wrong c n = rw (ne_eqb (length c) 12 n)
 number_within : (n m : ℕ) (c : List ℕ) (i : ℕ) → i + m ≤ n → number_at (take n c) i m ≡ number_at c i m
 number_within n zero c i h = refl
 number_within n (suc m) c i h =
-    rw (get_or-take n c i 0 (omega arith)) (ap (λ (x : ℕ). get_or c i 0 * 2 ^ (8 * m) + x) (number_within n m c (suc i) (omega arith)))
+    rw (get_or-take n c i 0 (omega arith))
+    (ap (λ (x : ℕ). get_or c i 0 * 2 ^ (8 * m) + x) (number_within n m c (suc i) (omega arith)))
 
 number_behind : (n m : ℕ) (c : List ℕ) (i : ℕ) → number_at (drop n c) i m ≡ number_at c (n + i) m
 number_behind n zero c i = refl
 number_behind n (suc m) c i =
     let next : n + suc i ≡ suc (n + i) = omega arith in
-    rw (get_or-drop n c i 0) (ap (λ (x : ℕ). get_or c (n + i) 0 * 2 ^ (8 * m) + x) (rw next at (number_behind n m c (suc i))))
+    rw (get_or-drop n c i 0)
+    (ap (λ (x : ℕ). get_or c (n + i) 0 * 2 ^ (8 * m) + x) (rw next at (number_behind n m c (suc i))))
 
 -- x and y are the column's first eight bytes and its last four
 pub column-loaded : (c : List ℕ) {x y : ℕ} → length c ≡ 12 → Bytes c → x ≡ from_be_bytes w64 (take 8 c)

@@ -40,4 +40,5 @@ chunk-at (suc n) k (suc i) d h =
 -- one number is of one group
 pub same-eight : (s t : List ℕ) → length s ≡ 8 → length t ≡ 8 → Bytes s → Bytes t
     → from_le_bytes w64 s ≡ from_le_bytes w64 t → s ≡ t
-same-eight s t l m small low e = sym (le_bytes_8 s (from_le_bytes w64 s) l small refl) ∙ le_bytes_8 t (from_le_bytes w64 s) m low e
+same-eight s t l m small low e =
+    sym (le_bytes_8 s (from_le_bytes w64 s) l small refl) ∙ le_bytes_8 t (from_le_bytes w64 s) m low e

@@ -9,7 +9,7 @@ use Rattle.load.specs.Chunks.{group-long, group-small, same-eight}
 use native.Mathlib.Omega.{arith}
 use borrow.Author.Tests.{eq-eqb}
 use Rattle.std.proofs.lemmas.List.{get_or-drop}
-use Rattle.std.proofs.Common.{◌∙◌, ap, eqb-true, length-drop, take-append-drop, drop-drop}
+use Rattle.std.proofs.Common.{ap, eqb-true, length-drop, take-append-drop, drop-drop}
 
 unfoldable pub shared_length : List ℕ → List ℕ → ℕ
 shared_length [] k = 0
@@ -62,7 +62,9 @@ pub shared-pairs : (j k : List ℕ) → prefix_len same_pair (zip j k) ≡ share
 unfolding shared_length
 shared-pairs [] k = refl
 shared-pairs (a ∷ j) [] = refl
-shared-pairs (a ∷ j) (b ∷ k) = ap (λ (n : ℕ). cond (eqb a b) n 0) (let one : 1 + prefix_len same_pair (zip j k) ≡ suc (prefix_len same_pair (zip j k)) = omega arith in one ∙ ap suc (shared-pairs j k))
+shared-pairs (a ∷ j) (b ∷ k) =
+    let one : 1 + prefix_len same_pair (zip j k) ≡ suc (shared_length j k) = omega (arith, shared-pairs j k) in
+    ap (λ (n : ℕ). cond (eqb a b) n 0) one
 
 -- groups of eight that are the same number
 abbrev pub same_number : List ℕ × List ℕ → Bool
@@ -87,7 +89,7 @@ shared-groups (suc n) (suc m) j k h l small low =
     by_test rest true e =
         let next : 8 + 8 * i ≡ 8 * (1 + i) = omega arith in
         let same : take 8 j ≡ take 8 k =
-        same-eight (take 8 j) (take 8 k) (group-long j 0 (omega arith)) (group-long k 0 (omega arith)) (group-small j 0 small)
-        (group-small k 0 low) (eqb-true (from_le_bytes w64 (take 8 j)) (from_le_bytes w64 (take 8 k)) e) in
+        same-eight (take 8 j) (take 8 k) (group-long j 0 (omega arith)) (group-long k 0 (omega arith))
+        (group-small j 0 small) (group-small k 0 low) (eqb-true (from_le_bytes w64 (take 8 j)) (from_le_bytes w64 (take 8 k)) e) in
         let first = shared-group j k 0 (shared_none j k) 8 (group-long j 0 (omega arith)) refl same in
         omega (arith, first, rw (drop-drop (8 * i) 8 j, drop-drop (8 * i) 8 k, next) at rest)

@@ -42,7 +42,8 @@ all-bytes : table (λ v. packed (low_bits (text_of (digits_in 8 v)))) 256 ≡ ta
 unfolding table digits_in low_bits
 all-bytes = refl
 
-pub plain-packed : (w : ℕ) → Plain (low_bytes 8 w) → packed (bit_and w (ones 8)) ≡ number_of (bits_of_text (low_bytes 8 w))
+pub plain-packed : (w : ℕ) → Plain (low_bytes 8 w)
+    → packed (bit_and w (ones 8)) ≡ number_of (bits_of_text (low_bytes 8 w))
 plain-packed w plain =
     let s = bits_of_text (low_bytes 8 w) in
     let v = number_of s in

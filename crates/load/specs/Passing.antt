@@ -64,7 +64,8 @@ passed-groups k zero h p = passed_none k
 passed-groups k (suc n) h p =
     let more : 8 * suc n ≡ 8 * n + 8 = omega arith in
     rw more
-    (passed-group k (8 * n) 8 (group-long k n h) refl (p n (omega arith)) (passed-groups k n (omega arith) λ i l. p i (omega arith)))
+    (passed-group k (8 * n) 8 (group-long k n h) refl (p n (omega arith))
+    (passed-groups k n (omega arith) λ i l. p i (omega arith)))
 
 -- so is the rest of a text, where it lies within a group at the end
 pub passed-last : (k : List ℕ) {t : List ℕ} (m i : ℕ) → t ≡ drop m k → m ≤ i → i ≤ length k → Plain t → Passed k i

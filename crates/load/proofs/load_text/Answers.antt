@@ -1,5 +1,5 @@
--- `gathered` gives the bits of up to 64 characters. Of a longer text the high word has the first 64, and the low word up
--- to 32 of those behind.
+-- `gathered` gives the bits of up to 64 characters. Of a longer text the high word has the first 64, and the low word
+-- up to 32 of those behind.
 use Rattle.std.proofs.Common.{◌≡◌, sym, length, arith, length-take, length-take-le}
 use Rattle.std.specs.Prelude.{min}
 use Rattle.load.specs.Gathering.{short_loaded, cut-loaded}

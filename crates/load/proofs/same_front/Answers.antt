@@ -15,6 +15,10 @@ returns c =
     let at = c.skip_same-same.result in
     let s = drop at c.args.j.now in
     let t = drop at c.args.k.now in
-    let e : c.count.result ≡ length (take (prefix_len same_pair (zip s t)) (zip s t)) = count_from_yields_List c.take_while.result c.count.result c.count.ensures.ran (YieldsList-from_take_while _ same_pair
-    (YieldsList-from_zip (YieldsList-from_slice s (cc (lent_part c.args.j.now at))) (YieldsList-from_slice t (cc (lent_part c.args.k.now at)))) c.take_while.ensures.closure c.take_while.ensures.done (λ x b q k. search (rules, tests))) in
-    rw (e, length-prefix_len, shared-pairs) (omega (arith, c.skip_same-same.ensures.shared))
+    let counted : c.count.result ≡ length (take (prefix_len same_pair (zip s t)) (zip s t)) =
+    count_from_yields_List c.take_while.result c.count.result c.count.ensures.ran
+    (YieldsList-from_take_while _ same_pair
+    (YieldsList-from_zip (YieldsList-from_slice s (cc (lent_part c.args.j.now at)))
+    (YieldsList-from_slice t (cc (lent_part c.args.k.now at))))
+    c.take_while.ensures.closure c.take_while.ensures.done (λ x b q k. search (rules, tests))) in
+    rw (counted, length-prefix_len, shared-pairs) (omega (arith, c.skip_same-same.ensures.shared))

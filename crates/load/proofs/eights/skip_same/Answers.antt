@@ -16,7 +16,11 @@ returns-clause-shared c =
     let k = c.args.k.now in
     let s = first_chunks 8 (length j / 8) j in
     let t = first_chunks 8 (length k / 8) k in
-    let e : c.count.result ≡ length (take (prefix_len same_number (zip s t)) (zip s t)) =
-    count_from_yields_List c.take_while-same.result c.count.result c.count.ensures.ran (YieldsList-from_take_while _ same_number
-    (YieldsList-from_zip (YieldsList-from_slice s (cc)) (YieldsList-from_slice t (cc))) c.take_while-same.ensures.closure c.take_while-same.ensures.done (λ x b q k. search (rules, tests))) in
-    rw (e, length-prefix_len) (shared-groups (length j / 8) (length k / 8) j k (omega arith) (omega arith) (λ i. omega (arith, c.type_inv.j i)) (λ i. omega (arith, c.type_inv.k i)))
+    let counted : c.count.result ≡ length (take (prefix_len same_number (zip s t)) (zip s t)) =
+    count_from_yields_List c.take_while-same.result c.count.result c.count.ensures.ran
+    (YieldsList-from_take_while _ same_number
+    (YieldsList-from_zip (YieldsList-from_slice s (cc)) (YieldsList-from_slice t (cc)))
+    c.take_while-same.ensures.closure c.take_while-same.ensures.done (λ x b q k. search (rules, tests))) in
+    rw (counted, length-prefix_len)
+    (shared-groups (length j / 8) (length k / 8) j k (omega arith) (omega arith) (λ i. omega (arith, c.type_inv.j i))
+    (λ i. omega (arith, c.type_inv.k i)))
