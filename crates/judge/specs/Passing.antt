@@ -4,7 +4,7 @@ use Rattle.std.proofs.Math.Path.{refl}
 use Rattle.std.proofs.Common.{sym, ◌∙◌, add-one, arith}
 use Rattle.std.proofs.Math.Bool.{true, false, cond}
 use Rattle.std.proofs.Math.Decide.{dec_lt}
-use borrow.Author.Tests.{le-ltb, eq-eqb, ne_eqb}
+use borrow.Author.Tests.{lt-ltb, le-ltb, eq-eqb, ne_eqb}
 use Rattle.blocks.specs.declared.Block.{Block}
 use Rattle.outcomes.specs.BlockOrder.{block_below}
 use Rattle.outcomes.specs.Stocking.{wrong_table}
@@ -80,6 +80,11 @@ module _ (key : Block) (m : List ℕ) (used : ℕ) where
   rows_unsound e = rw e
 
   -- what judging the table answers
+  pub judged_over : false ≡ (wrong_table stock_rows m).1 → room_of stock_rows m < used
+      → Err UnsoundTable ≡ judged key used m
+  unfolding judged
+  judged_over e h = rw (← e, lt-ltb (room_of stock_rows m) used h)
+
   pub judged_rows_lem : false ≡ (wrong_table stock_rows m).1 → used ≤ room_of stock_rows m
       → judged_rows key (rows_in 12 used m) ≡ judged key used m
   unfolding judged judged_rows
