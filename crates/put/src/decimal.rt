@@ -10,7 +10,8 @@ pub fn places(n: u32) -> usize
     n.max(1).ilog10() as usize + 1
 }
 
-// The last digits of n, as many as out has bytes.
+// The last digits of n, as many as out has bytes. By hand: write! wants a writer over the slice, which is longer than
+// this loop.
 pub fn put_digits(out: &mut [u8], n: u32)
     ensures { out.new ≡ last_digits (length out.old) n }
 {
