@@ -46,7 +46,7 @@ pub fn is_below(a: Block, b: Block) -> bool
 }
 
 // Whether the key of row i doesn't stand behind that of the row before it. The first row has none before it, as its
-// index tells. An `Option` of the key before would say so too, but takes 8 instructions a row more: the bar is missed too.
+// index tells: an `Option` of the key before takes 8 instructions a row more, and the bar is missed as well.
 fn falls(i: usize, last: Block, block: Block) -> bool
     ensures { result ≡ falls_at i last block }
 {
