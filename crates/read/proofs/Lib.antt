@@ -1,4 +1,4 @@
 pub mod Next
+pub mod Range
 pub mod Steps
-pub mod Begun
 pub mod Replies

@@ -1,12 +1,17 @@
--- The next convergent: none where it is over the limit.
-use Rattle.std.specs.Prelude.{◌≡◌, Bool, ◌||◌, ◌⊎◌, ◌≤◌, ◌<◌, ltb, Option, Some, None}
-use Rattle.std.proofs.Math.Path.{refl}
-use Rattle.std.proofs.Common.{sym, ◌∙◌, ap, true≢false, inl, inr, arith, lt-ltb, le-ltb, ltb-false}
+-- The next convergent in one number: it is 0 where the convergent is over the limit, and gives its terms back where it
+-- isn't.
+use Rattle.std.specs.Prelude.{◌≡◌, Bool, ◌||◌, ◌⊎◌, ℕ, ◌+◌, ◌*◌, ◌^◌, ◌≤◌, ◌<◌, ltb}
+use Rattle.std.proofs.Math.Path.{refl, ap}
+use Rattle.std.proofs.Common.{◌∙◌, true≢false, inl, inr, mul-le-mul, arith, lt-ltb, le-ltb, ltb-false}
 use Rattle.std.proofs.Math.Bool.{true, false, cond, or-true}
-use Rattle.fractions.specs.Fractions.{Ratio}
-use Rattle.fractions.specs.declared.Fraction.{Fraction}
+use Rattle.std.proofs.Math.Pow.{high, low}
+use Rattle.fractions.specs.Fractions.{Ratio, ◌over◌}
 use Rattle.keys.specs.Size.{limit}
-use Rattle.read.specs.Finding.{fraction, ratio_of, is_over, limited}
+use Rattle.read.specs.Finding.{packed, ratio_in, is_over, limited}
+
+-- a term of the next convergent fits in 64 bits
+pub term_fits : (a x y : ℕ) → a ≤ limit → x ≤ limit → y ≤ limit → a * x + y < 2 ^ 64
+term_fits a x y h k l = omega (arith, mul-le-mul h k)
 
 -- a ratio is over the limit if one of its terms is
 pub term_over : (r : Ratio) → (limit < r.num) ⊎ (limit < r.den) → is_over r ≡ true
@@ -26,40 +31,34 @@ within r e = by_tests (ltb limit r.num) (ltb limit r.den) refl refl e
     by_tests false true p q e = absurd (true≢false e)
     by_tests false false p q e = (ltb-false limit r.num p, ltb-false limit r.den q)
 
--- what is no smaller than a ratio over the limit is over it too
-pub grown_over : (r w : Ratio) → is_over r ≡ true → r.num ≤ w.num → r.den ≤ w.den → is_over w ≡ true
-grown_over r w o m n = by_test (is_over w) refl
-  where
-    by_test : (b : Bool) → is_over w ≡ b → is_over w ≡ true
-    by_test true e = e
-    by_test false e =
-        let (k, l) = within w e in absurd (true≢false (sym o ∙ not_over r (omega arith) (omega arith)))
+pub ratio-packed : (r : Ratio) → r.num ≤ limit → ratio_in (packed r) ≡ r
+ratio-packed r h =
+    let l : r.num < 2 ^ 32 = omega arith in λ i. (low r.den 32 l i) over (high r.den 32 l i)
 
 module _ (w : Ratio) where
-  pub limited_over : (limit < w.num) ⊎ (limit < w.den) → None ≡ limited w
+  pub limited_over : (limit < w.num) ⊎ (limit < w.den) → 0 ≡ limited w
   unfolding limited
   limited_over h = rw (term_over w h) refl
 
-  pub limited_within : w.num ≤ limit → w.den ≤ limit → Some (fraction w) ≡ limited w
+  pub limited_within : w.num ≤ limit → w.den ≤ limit → packed w ≡ limited w
   unfolding limited
   limited_within h k = rw (not_over w h k) refl
 
-  pub limited_none : None ≡ limited w → is_over w ≡ true
+-- n is w or, if that is over the limit, 0
+module _ {n : ℕ} (w : Ratio) (e : n ≡ limited w) where
+  -- 0/0 alone would be 0 without being over the limit
+  pub none_over : 1 ≤ w.num + w.den → n ≡ 0 → is_over w ≡ true
   unfolding limited
-  limited_none = by_test (is_over w)
+  none_over h z = by_test (is_over w) e
     where
-      by_test : (o : Bool) → None ≡ cond o None (Some (fraction w)) → o ≡ true
+      by_test : (o : Bool) → n ≡ cond o 0 (packed w) → o ≡ true
       by_test true e = refl
-      by_test false e = absurd (grind arith)
+      by_test false e = absurd (omega arith)
 
-  pub limited_some : (f : Fraction) → Some f ≡ limited w → (is_over w ≡ false) × (ratio_of f ≡ w)
+  pub some-within : 1 ≤ n → (is_over w ≡ false) × (ratio_in n ≡ w)
   unfolding limited
-  limited_some f = by_test (is_over w)
+  some-within h = by_test (is_over w) refl e
     where
-      of : Option Fraction → Ratio
-      of (Some g) = ratio_of g
-      of None = w
-
-      by_test : (o : Bool) → Some f ≡ cond o None (Some (fraction w)) → (o ≡ false) × (ratio_of f ≡ w)
-      by_test true e = absurd (grind arith)
-      by_test false e = (refl, ap of e)
+      by_test : (o : Bool) → is_over w ≡ o → n ≡ cond o 0 (packed w) → (o ≡ false) × (ratio_in n ≡ w)
+      by_test true f e = absurd (omega arith)
+      by_test false f e = (refl, ap ratio_in e ∙ ratio-packed w (within w f).0)
