@@ -131,7 +131,7 @@ module _ (s next : Field) (n w c : ℕ) (t : List ℕ)
     (slash : typed_of (foldl fed_by (fed_slash s) t) ≡ typed_behind n w [] t)
     (digit : fed_digit s (c - 48) ≡ cond (ltb n 10) next Bad)
     (more : typed_of (foldl fed_by next t)
-        ≡ typed_behind (n + 1) (w * 10 + (c - 48)) (before_slash t) (after_slash t)) where
+    ≡ typed_behind (n + 1) (w * 10 + (c - 48)) (before_slash t) (after_slash t)) where
   byte_typed : (b : Bool) → eqb c 47 ≡ b
       → typed_of (foldl fed_by s (c ∷ t)) ≡ typed_behind n w (before_slash (c ∷ t)) (after_slash (c ∷ t))
   unfolding before_slash after_slash
