@@ -1,7 +1,8 @@
 // The ratio of a block's string, by forward convergents. Two functions, one for words and one for turned words, call
 // each other. A convergent is one number, denominator above numerator, and so is the answer: the last convergent, or,
 // below 2^32, the characters used before the quotient that left the range. With one number each, the calls become
-// jumps, and one function becomes a loop.
+// jumps, and one function becomes a loop. One loop over both kinds, with convergents as fractions, takes 301.7
+// instructions for the column of wheels, and misses the bar of 288.3.
 ghost use Rattle.std.specs.Prelude.{true, false, ◌≡◌};
 ghost use Rattle.blocks.specs.Blocks.{bits_of_block};
 ghost use Rattle.fractions.specs.Convergents.{convergent};
@@ -78,8 +79,8 @@ fn find_turned(high: u64, low: u32, used: usize, u: u64, v: u64) -> u64
     }
 }
 
-// The value of a block's string, or the characters before the quotient that left the range. The first character gives the first convergents: 1/0
-// and 0/1 before a word, and after the quotient 0 those before a turned word, 0/1 and 1/0.
+// The value of a block's string, or the characters before the quotient that left the range. The first character gives
+// the first convergents: 1/0 and 0/1 before a word, and after the quotient 0 those before a turned word, 0/1 and 1/0.
 pub fn find(b: Block) -> Result<Fraction, usize>
     ensures { result ≡ found_of (bits_of_block b) }
 {

@@ -1,10 +1,10 @@
 -- The word in front of a text, read from its characters: its run is counted, zeros are told from the end, digits are
 -- read.
-use Rattle.std.specs.Prelude.{◌≡◌, refl, Bool, true, false, not, cond, ◌&&◌, Option, Some, None, List, [], ◌∷◌, ℕ, zero, suc, ◌+◌, ◌*◌, ◌-◌, ◌^◌, ◌≤◌, ◌<◌, min, eqb, ltb, length, get_or, take, drop, Err}
-use Rattle.std.proofs.Common.{sym, ◌∙◌, ap, add-zero, drop_of_length-le, pow_mono, get_or-drop, length-take-le, ltb-true, ltb-false}
+use Rattle.std.specs.Prelude.{◌≡◌, refl, Bool, true, false, not, ◌&&◌, Option, Some, None, List, [], ◌∷◌, ℕ, zero, suc, ◌+◌, ◌*◌, ◌-◌, ◌^◌, ◌≤◌, ◌<◌, min, eqb, length, get_or, take, drop, Err}
+use Rattle.std.proofs.Common.{sym, ◌∙◌, ap, add-zero, add-one, drop_of_length-le, pow_mono, drop-cons, get_or-drop}
 use Rattle.std.specs.Bool.{beq}
-use Rattle.std.specs.List.{prefix_len, position_or_len, list_all, HoldsAt}
-use Rattle.std.specs.Option.{MatchOption, unwrap_or}
+use Rattle.std.specs.List.{list_all, HoldsAt}
+use Rattle.std.specs.Option.{MatchOption}
 use Rattle.std.specs.Borrow.{Bor}
 use Rattle.std.proofs.Math.Decide.{dec_lt}
 use Rattle.std.proofs.lemmas.Bool.{false≢true}
@@ -28,7 +28,7 @@ use Rattle.scan.specs.contracts.Kind.{the_type}
 use denote.Enum.Bare.{sameb}
 use Rattle.scan.specs.declared.Place.{Place}
 use Rattle.refusals.specs.declared.Refusal.TheVariants.{OutOfRange}
-use Rattle.scan.specs.Characters.{bits_read}
+use Rattle.scan.specs.Characters.{bits_read, Ran}
 use Rattle.scan.specs.Taking.{is_turned, took, taken_from, taken_at}
 use Rattle.scan.proofs.Taking.{taken_many, taken_few}
 
@@ -56,56 +56,28 @@ pub bit_got : (k : List ℕ) (z : Bool) (i : ℕ) (o : Option (Bor ℕ)) (r : Bo
 bit_got k z i None r l e f = e ∙ sym (get_or-eq_default (bits_read k z) z {n = i} (omega (arith, bits-length k z)))
 bit_got k z i (Some x) r (l, h) e f = f x e ∙ ap (λ (c : ℕ). not (beq (eqb c 49) z)) (h 0) ∙ sym (bit-read k z i)
 
--- one bit more in front
-run-front : (n x : ℕ) (b : Bool) (s : Bits) → x ≡ min n (run_of s) → cond b (1 + x) 0 ≡ min (suc n) (run_of (b ∷ s))
-run-front n x true s e = omega arith
-run-front n x false s e = omega arith
+pub ran_none : (s : Bits) → Ran s 0
+ran_none s = omega arith
 
-differs_true : (b : Bool) → not (beq b true) ≡ not b
-differs_true true = refl
-differs_true false = refl
+module _ (k : List ℕ) (z : Bool) (n : ℕ) where
+  abbrev s : Bits
+  s = bits_read k z
 
-differs_false : (b : Bool) → not (beq b false) ≡ b
-differs_false true = refl
-differs_false false = refl
+  next : n < length k → drop n s ≡ not (zero_at k z n) ∷ drop (suc n) s
+  next h = rw (← bit-read k z n) (drop-cons s n z (omega (arith, bits-length k z)))
 
--- looking by the library: the first character that is no one, among the first n, or n
-pub run_counted : (n : ℕ) (k : List ℕ) (z : Bool)
-    → prefix_len (λ c. not (beq (eqb c 49) z)) (take n k) ≡ min n (run_of (bits_read k z))
-run_counted zero k z = omega arith
-run_counted (suc n) [] true = omega arith
-run_counted (suc n) [] false = omega arith
-run_counted (suc n) (c ∷ k) true =
-    rw differs_true (run-front n _ (not (eqb c 49)) (bits_read k true) (run_counted n k true))
-run_counted (suc n) (c ∷ k) false =
-    rw differs_false (run-front n _ (eqb c 49) (bits_read k false) (run_counted n k false))
+  past : length k ≤ n → drop n s ≡ []
+  past h = drop_of_length-le s {i = n} (omega (arith, bits-length k z))
 
-run_of_lem : (s : Bits) → run_of s ≤ length s
-run_of_lem [] = omega arith
-run_of_lem (true ∷ s) = omega (arith, run_of_lem s)
-run_of_lem (false ∷ s) = omega arith
+  pub ran-more : n < length k → zero_at k z n ≡ false → Ran s n → Ran s (n + 1)
+  ran-more l e p =
+      let step : run_of (drop n s) ≡ suc (run_of (drop (suc n) s)) = rw (next l, e) in rw add-one (omega arith)
 
-module _ (k : List ℕ) (z : Bool) {most : ℕ} (m : most ≡ min (length k) 32) where
-  abbrev among : List ℕ
-  among = take most k
+  pub ran_stopped : n < length k → zero_at k z n ≡ true → Ran s n → run_of s ≡ n
+  ran_stopped l e p = let step : run_of (drop n s) ≡ 0 = rw (next l, e) in omega arith
 
-  abbrev place : ℕ
-  place = position_or_len (λ c. beq (eqb c 49) z) among
-
-  pub run_found : {o : Option ℕ} → o ≡ cond (ltb place (length among)) (Some place) None
-      → unwrap_or o most ≡ min 32 (run_of (bits_read k z))
-  run_found e = rw e (by_test (ltb place (length among)) refl)
-    where
-      size : length among ≡ most
-      size = length-take-le most k (omega arith)
-
-      whole : run_of (bits_read k z) ≤ length k
-      whole = rw bits-length at (run_of_lem (bits_read k z))
-
-      by_test : (b : Bool) → ltb place (length among) ≡ b
-          → unwrap_or (cond b (Some place) None) most ≡ min 32 (run_of (bits_read k z))
-      by_test true q = omega (arith, ltb-true place (length among) q, size, whole, run_counted most k z)
-      by_test false q = omega (arith, ltb-false place (length among) q, size, whole, run_counted most k z)
+  pub ran-all : length k ≤ n → Ran s n → run_of s ≡ n
+  ran-all l p = let step : run_of (drop n s) ≡ 0 = rw (past l) in omega arith
 
 -- looking by the library: no character from there on is a 1
 pub zeros_are : (at : ℕ) (k : List ℕ)

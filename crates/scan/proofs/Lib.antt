@@ -4,4 +4,3 @@ pub mod Begun
 pub mod Ended
 pub mod Characters
 pub mod Callers
-pub mod Counting

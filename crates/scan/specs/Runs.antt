@@ -35,6 +35,14 @@ shifted R N w left h l e =
     let front : w * R ≡ q * N + left = omega (arith, ap (λ (x : ℕ). x * N) next) in
     ap (λ (x : ℕ). x % N) front ∙ digits_mod q l
 
+-- one more one counted: what is left of w after n ones, where R = 2 ^ n, is shifted once more
+pub next_one : (R N H w left : ℕ) → 2 * H ≡ N → w < N → 1 ≤ R → H ≤ left → left + N * R ≡ w * R + N
+    → (left * 2) % N + N * (R * 2) ≡ w * (R * 2) + N
+next_one R N H w left whole h some l e =
+    let less : w * R + R ≤ N * R = omega (arith, mul-le-mul_right {m = w + 1} {n = N} R (omega arith)) in
+    let next = left * 2 - N in
+    omega (arith, shifted 2 N left next (omega arith) (omega arith) (omega arith))
+
 pub shifted_small : {w r : ℕ} → Counted w r → r < 32 → (w * 2 ^ r) % 2 ^ 64 < 2 ^ 63
 shifted_small {w} {r} c h =
     let left = w * 2 ^ r + 2 ^ 64 - 2 ^ 64 * 2 ^ r in

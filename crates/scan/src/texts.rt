@@ -39,12 +39,19 @@ impl<'a> Characters<'a> {
         ensures ones { result ≡ min 32 (run_of (bits_read self.entry.text.now self.entry.turned)) }
         ensures within { result ≤ length self.entry.text.now }
     {
-        let most = self.text.len().min(32);
-        self.text
-            .iter()
-            .take(most)
-            .position(|c| (*c == b'1') == self.turned)
-            .unwrap_or(most)
+        let mut n = 0;
+        loop {
+            if 31 < n {
+                break n;
+            }
+            if self.text.len() <= n {
+                break n;
+            }
+            if (self.text[n] == b'1') == self.turned {
+                break n;
+            }
+            n += 1;
+        }
     }
 
     // The digits after a run and the zero that stops it, with a leading one before them.

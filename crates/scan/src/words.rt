@@ -25,11 +25,22 @@ pub fn window(b: Block, used: usize) -> u64
     0
 }
 
-// The ones in front of w, or 32 where there are more.
+// The ones in front of w, counted until a zero is met, or until there are more than 31.
 fn run(w: u64) -> u32
     ensures { Counted w result }
 {
-    w.leading_ones().min(32)
+    let mut left = w;
+    let mut n = 0;
+    loop {
+        if 31 < n {
+            break n;
+        }
+        if left < 0x8000_0000_0000_0000 {
+            break n;
+        }
+        left = left << 1;
+        n += 1;
+    }
 }
 
 // The word in front of w. Its run says how many digits follow the zero that stops it; a leading one goes before them.

@@ -1,7 +1,11 @@
--- The leading ones are the leading zeros of the complement.
-use Rattle.std.proofs.Common.{arith}
-use Rattle.scan.proofs.Counting.{ones_counted}
+-- One more one is counted.
+use Rattle.std.proofs.Common.{◌^◌, refl, arith, pow-add, pow_pos}
+use Rattle.scan.specs.Runs.{next_one}
 use Rattle.scan.proofs.words.run.Goals as goal
 
-pub returns : goal.returns
-returns c = ones_counted c.args.w (omega arith) (rw c.leading_ones.ensures at c.min.ensures)
+pub loop-n-preserved : goal.loop-n-preserved
+loop-n-preserved c =
+    let l = c.loop-n in
+    let next =
+    next_one (2 ^ l.n) (2 ^ 64) (2 ^ 63) c.args.w l.left refl (omega arith) (pow_pos l.n) (omega arith) l.invariant.0 in
+    (rw (pow-add 2 l.n 1) next, omega arith)

@@ -1,19 +1,20 @@
--- The library finds the first character that is no one.
-use Rattle.std.specs.Prelude.{eqb}
-use Rattle.std.proofs.Common.{◌∙◌, rules, tests}
-use Rattle.std.specs.Bool.{beq}
-use Rattle.std.proofs.lemmas.Iterator.{YieldsList-from_slice, YieldsList-from_take}
-use Rattle.std.proofs.lemmas.Iterator.Consumers.{YieldsList-at}
-use Rattle.std.proofs.lemmas.Iterator.Search.{position_from_yields_List}
-use Rattle.scan.proofs.Characters.{run_found}
+-- The loop ends at 32, at the end of the text or at a zero, and each way that is what is counted.
+use Rattle.std.proofs.Common.{arith}
+use Rattle.scan.proofs.Characters.{ran-more, ran_stopped}
 use Rattle.scan.proofs.texts.Characters.run.Goals as goal
 
-pub returns-clause-ones : goal.returns-clause-ones
-returns-clause-ones c =
-    let k = c.args.self.text.now in
-    let z = c.args.self.turned in
-    let items = YieldsList-at c.take.ensures.source (YieldsList-from_slice k cc) in
-    let found =
-    position_from_yields_List (λ b. beq (eqb b 49) z) _ _ c.position.result c.position.ensures.ran
-    (YieldsList-from_take c.min-most.result items c.take.ensures.count) (λ x b q h. search (rules, tests)) in
-    c.unwrap_or.ensures ∙ run_found k z c.min-most.ensures found
+pub loop-n-preserved : goal.loop-n-preserved
+loop-n-preserved c =
+    let s = c.args.self in (
+      omega arith,
+      omega arith,
+      ran-more s.text.now s.turned c.loop-n.n (omega arith) c.if-self-n-2.false c.loop-n.invariant.2,
+    )
+
+pub returns-then-self-n-2-clause-ones : goal.returns-then-self-n-2-clause-ones
+returns-then-self-n-2-clause-ones c =
+    let s = c.args.self in
+    omega (
+      arith,
+      ran_stopped s.text.now s.turned c.loop-n.n (omega arith) c.if-self-n-2.true c.loop-n.invariant.2,
+    )
