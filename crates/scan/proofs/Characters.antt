@@ -22,10 +22,6 @@ use Rattle.families.specs.Families.{ended}
 use Rattle.families.specs.Words.{run_of, first_number}
 use Rattle.families.proofs.Digits.{number_low, number_high}
 use Rattle.load.specs.Gathering.{byte_digit}
-use Rattle.scan.specs.declared.Kind.{Kind}
-use Rattle.scan.specs.declared.Kind.TheVariants.{Word, Turned}
-use Rattle.scan.specs.contracts.Kind.{the_type}
-use denote.Enum.Bare.{sameb}
 use Rattle.scan.specs.declared.Place.{Place}
 use Rattle.refusals.specs.declared.Refusal.TheVariants.{OutOfRange}
 use Rattle.scan.specs.Characters.{bits_read, Ran}
@@ -139,11 +135,6 @@ module _ (z : Bool) (s : Bits) (h : ended z s ≡ false) {r : ℕ} (e : r ≡ mi
   pub run-word : r < 32 → took (number_from 1 (first_bits z r (drop (suc r) s))) (2 * r + 1) ≡ taken_from z s
   unfolding first_number
   run-word l = let same : r ≡ run_of s = omega arith in rw same (taken_few z s h (run_of s) low high (omega arith))
-
--- the library's test of the kind that is due
-pub due_test : (d : Kind) → sameb the_type d Turned ≡ is_turned d
-due_test Word = refl
-due_test Turned = refl
 
 -- at a place that is what is taken from the text behind the characters used, as it is lent
 pub taken-lent : (k : List ℕ) (p : Place) (at : ℕ) {z : Bool} → z ≡ is_turned p.due → at ≡ min p.used (length k)

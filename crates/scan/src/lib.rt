@@ -119,6 +119,12 @@ pub fn take_text(k: &[u8], place: Place) -> Result<Option<Quotient>, Refusal>
     ensures { result ≡ taken_at (bits_of_text k.now) place }
 {
     let text = &k[place.used.min(k.len())..];
-    let turned = place.due == Kind::Turned;
-    Characters { text, turned }.word()
+    match place.due {
+        Kind::Word => Characters {
+            text,
+            turned: false,
+        }
+        .word(),
+        Kind::Turned => Characters { text, turned: true }.word(),
+    }
 }
