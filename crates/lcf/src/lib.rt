@@ -13,8 +13,6 @@ ghost use Rattle.outcomes.specs.Stepping.{start_text, step_text};
 ghost use Rattle.lcf.specs.Structs.{of_written, of_ratio, of_text, of_column, of_standing, of_started, of_stepped};
 ghost use Rattle.lcf.specs.Structs.{earlier_in};
 
-use std::cmp::Ordering;
-
 mod answers;
 mod places;
 pub mod stocking;
@@ -124,14 +122,18 @@ pub fn lcf_compare(first: &[u8], second: &[u8]) -> Standing
     compare::compare(first, second).into()
 }
 
-// 1 for the first key, 2 for the second, 0 where comparing refuses: which of the two `compare::earlier` hands back.
+// 1 for the first key, 2 for the second, 0 where comparing refuses: which of the two `compare::earlier` hands back. By
+// the struct, so that one compiled comparison serves both calls, and for speed becomes a part of the other.
 pub fn lcf_earlier(first: &[u8], second: &[u8]) -> u32
     ensures { result ≡ earlier_in (compare_text first.now second.now) }
 {
-    match compare::compare(first, second) {
-        Ok(Ordering::Greater) => 2,
-        Ok(_) => 1,
-        Err(_) => 0,
+    match lcf_compare(first, second) {
+        Standing {
+            refusal: 0,
+            standing: 3,
+        } => 2,
+        Standing { refusal: 0, .. } => 1,
+        _ => 0,
     }
 }
 

@@ -88,7 +88,7 @@ pub fn judge(k: &[u8]) -> Result<(), Fault>
         });
     }
     let last = k.len() - 1;
-    if 1 < k.len() && k[last] == b'0' {
+    if k[last] == b'0' && 1 < k.len() {
         return Err(Fault {
             refusal: Refusal::OpenKey,
             at: last,

@@ -1,16 +1,10 @@
--- The eight bytes that are read are those of the number.
-use Rattle.std.proofs.Common.{◌≡◌, ◌+◌, ◌-◌, length, take, drop, arith, length-drop, length-take-le, get_or-drop}
+-- A part of eight bytes is an array of eight.
+use Rattle.std.proofs.Common.{◌≡◌, ◌+◌, ◌-◌, arith}
 use Rattle.std.proofs.lemmas.Result.{MatchResult-at_ok}
-use Rattle.load.specs.Chunks.{bytes-take, eight-read}
 use Rattle.load.proofs.eights.group.Goals as goal
 
 pub returns : goal.returns
 returns c =
-    let k = c.args.k.now in
-    let at = c.args.at in
-    let part = (MatchResult-at_ok _ _ _ c.unwrap.ensures c.try_into.ensures.1).same in
-    let eight : at + 8 - at ≡ 8 = omega arith in
-    let size : length (take 8 (drop at k)) ≡ 8 = length-take-le 8 (drop at k) (rw length-drop (omega arith)) in
-    eight-read (take 8 (drop at k)) size
-    (bytes-take 8 (drop at k) (λ i. rw get_or-drop (omega (arith, c.type_inv.k (at + i)))))
-    (rw (part, eight) at c.from_le_bytes.ensures)
+    let part = MatchResult-at_ok _ _ _ c.unwrap.ensures c.try_into.ensures.1 in
+    let eight : c.args.at + 8 - c.args.at ≡ 8 = omega arith in
+    rw eight at part.same

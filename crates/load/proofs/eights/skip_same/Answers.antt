@@ -7,8 +7,8 @@ use Rattle.load.proofs.eights.skip_same.Goals as goal
 
 pub loop-i-preserved : goal.loop-i-preserved
 loop-i-preserved c =
-    let same : c.group.result ≡ c.group-in-loop-i.result = omega arith in (
+    let same : c.number.result ≡ c.number-in-loop-i.result = omega arith in (
       omega arith,
-      shared-group _ _ c.loop-i.i c.loop-i.invariant.1 8 (length_low 8 c.group.result) c.group.ensures
-          (ap (low_bytes 8) same ∙ c.group-in-loop-i.ensures),
+      shared-group _ _ c.loop-i.i c.loop-i.invariant.1 8 (length_low 8 c.number.result) c.number.ensures
+          (ap (low_bytes 8) same ∙ c.number-in-loop-i.ensures),
     )
