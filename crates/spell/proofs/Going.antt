@@ -1,6 +1,6 @@
 -- One turn of the writer's loop: a turned word and a word more, and the same string in all.
 use Rattle.std.specs.Prelude.{◌≡◌, refl, true, not, List, [], ◌∷◌, ◌++◌, ℕ, ◌+◌, ◌*◌, ◌-◌, ◌/◌, ◌%◌, ◌≤◌, ◌<◌, length}
-use Rattle.std.proofs.Common.{sym, ◌∙◌, ap, add-zero, div-add-mod', mod-lt, arith}
+use Rattle.std.proofs.Common.{sym, ◌∙◌, ap, add-zero, div-add-mod', mod-lt, le-div_iff_mul-le, arith}
 use Rattle.std.proofs.Common.{append_assoc, append-nil, length-append}
 use Rattle.std.proofs.lemmas.List.{map-append, length-map}
 use Rattle.bits.specs.Strings.{Bits, turn}
@@ -20,6 +20,9 @@ pub record Going (d₀ r₀ : ℕ) (line₀ : Bits) (count₀ d r : ℕ) (line :
   pub counted : count + length (to_come d r) ≡ count₀ + length (to_come d₀ r₀)
   pub divisor : gcd d r ≡ gcd d₀ r₀
 
+pub going-start : {d r : ℕ} {line : Bits} {count : ℕ} → Room d r line count → Going d r line count d r line count
+going-start h = record { here = h; string = refl; counted = refl; divisor = refl }
+
 module _ {d r : ℕ} {line : Bits} {count : ℕ} (some : 1 ≤ r) (here : Room d r line count) where
   abbrev t : ℕ
   t = (d - 1) % r + 1
@@ -30,10 +33,16 @@ module _ {d r : ℕ} {line : Bits} {count : ℕ} (some : 1 ≤ r) (here : Room d
   abbrev b : ℕ
   b = r / t
 
-  t-below : t ≤ r
+  pub t-below : t ≤ r
   t-below = omega (arith, mod-lt (d - 1) some)
 
-  left-below : r % t < t
+  pub a-some : 1 ≤ a
+  a-some = (le-div_iff_mul-le some).1 (omega (arith, here.turned))
+
+  pub b-some : 1 ≤ b
+  b-some = (le-div_iff_mul-le {k = t} (omega arith)).1 (omega (arith, t-below))
+
+  pub left-below : r % t < t
   left-below = mod-lt r (omega arith)
 
   before : d ≡ a * r + t

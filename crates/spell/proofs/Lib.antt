@@ -1,4 +1,5 @@
 mod Lines
+mod Measures
 mod Words
 mod Going
 mod Beginning
