@@ -37,7 +37,7 @@ number_bytes (suc n) c i h small =
     (ap (λ (x : ℕ). get_or c i 0 * 2 ^ (8 * n) + x) (number_bytes n c (suc i) (omega arith) small))
 
 -- bytes left out are eight bits each
-bits-drop : (n : ℕ) (c : List ℕ) → bits_of_bytes (drop n c) ≡ drop (n * 8) (bits_of_bytes c)
+pub bits-drop : (n : ℕ) (c : List ℕ) → bits_of_bytes (drop n c) ≡ drop (n * 8) (bits_of_bytes c)
 bits-drop zero c = refl
 bits-drop (suc n) [] = sym (drop-nil (suc n * 8))
 bits-drop (suc n) (a ∷ c) =

@@ -31,7 +31,7 @@ abbrev pub Strange : ℕ → Type 0
 Strange c = (c ≢ 48) × (c ≢ 49)
 
 -- a digit passes the test for that
-is_digit_lem : (c : ℕ) → Digit c → (eqb c 48 || eqb c 49) ≡ true
+pub is_digit_lem : (c : ℕ) → Digit c → (eqb c 48 || eqb c 49) ≡ true
 is_digit_lem c (inl e) = rw e
 is_digit_lem c (inr e) = rw e
 

@@ -25,7 +25,7 @@ bytes-high zero v = refl
 bytes-high (suc zero) v = rw div-one
 bytes-high (suc (suc n)) v = ap {B = List ℕ} (λ l. v / 256 ^ suc n % 256 ∷ l) (bytes-high (suc n) v)
 
-length-bytes : (n v : ℕ) → length (bytes_in n v) ≡ n
+pub length-bytes : (n v : ℕ) → length (bytes_in n v) ≡ n
 unfolding bytes_in
 length-bytes zero v = refl
 length-bytes (suc n) v = ap suc (length-bytes n v)
@@ -71,7 +71,7 @@ bytes-from (suc n) v s e =
     (bytes-from n (number_from v f) d rest ∙ ap (bytes_in n) (sym (number-append v f d)))
     ∙ ap (λ (r : Bits). bytes_in (suc n) (number_from v r)) (first-rest false 8 s (omega arith))
 
-block-bytes : (b : Block) → b.high < 2 ^ 64 → b.low < 2 ^ 32
+pub block-bytes : (b : Block) → b.high < 2 ^ 64 → b.low < 2 ^ 32
     → bytes_of 12 (bits_of_block b) ≡ bytes_in 8 b.high ++ bytes_in 4 b.low
 unfolding bits_of_block
 block-bytes b h l =

@@ -20,7 +20,7 @@ pub key-length : (b : Block) → length (closed (bits_of_block b)) ≤ 96
 key-length b = omega (arith, closed-length (bits_of_block b), block-length b)
 
 -- the digits of a half word that is shifted to the top of a word
-low_take : (v n : ℕ) → v < 2 ^ 32 → n ≤ 32 → take n (digits_in 64 (v * 2 ^ 32 % 2 ^ 64)) ≡ take n (digits_in 32 v)
+pub low_take : (v n : ℕ) → v < 2 ^ 32 → n ≤ 32 → take n (digits_in 64 (v * 2 ^ 32 % 2 ^ 64)) ≡ take n (digits_in 32 v)
 low_take v n h r =
     let t = digits_in 32 v in
     let size : length t ≡ 32 = length-digits 32 v in
@@ -29,7 +29,7 @@ low_take v n h r =
     rw (value, digits-first) (take-first false n 64 t (omega arith) (omega arith))
 
 module _ (b : Block) (m : List ℕ) {n : ℕ} (room : 96 ≤ length m) (count : n ≡ length (closed (bits_of_block b))) where
-  key-text : {e : List ℕ} → e ≡ in_front (text_of (take n (bits_of_block b))) m
+  pub key-text : {e : List ℕ} → e ≡ in_front (text_of (take n (bits_of_block b))) m
       → ◌≡◌ {A = Result ℕ Refusal × List ℕ} (Ok n, e) (text_put (bits_of_block b) m)
   unfolding text_put
   key-text h =

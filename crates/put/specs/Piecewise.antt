@@ -30,7 +30,7 @@ front_past t m n h =
     rw (drop-drop, whole) at (drop-append-add t (drop (length t) m) (n - length t))
 
 -- a word that holds s from a place on: its top n bits as text
-top_text : (s : Bits) (left at n k : ℕ) → n + k ≡ 64 → at + n ≤ length s
+pub top_text : (s : Bits) (left at n k : ℕ) → n + k ≡ 64 → at + n ≤ length s
     → left ≡ number_of (first_bits false 64 (drop at s))
     → text_of (digits_in n (left / 2 ^ k)) ≡ text_of (take n (drop at s))
 top_text s left at n k w h e =
@@ -50,7 +50,7 @@ shifted_text word k n j f w h =
     rw (whole, first-digits, number_of-digits 64 word f) at (first_shifted k (64 - k) s (omega arith)) in
     top_text s (word * 2 ^ k % 2 ^ 64) k n j w (omega arith) moved
 
-one_character : (b : ℕ) → b < 2 → ◌≡◌ {A = List ℕ} ((48 + b) ∷ []) (text_of (digits_in 1 b))
+pub one_character : (b : ℕ) → b < 2 → ◌≡◌ {A = List ℕ} ((48 + b) ∷ []) (text_of (digits_in 1 b))
 unfolding digits_in
 one_character zero h = refl
 one_character (suc zero) h = refl

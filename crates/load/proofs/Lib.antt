@@ -1,0 +1,3 @@
+pub mod Passing
+pub mod Bytes
+pub mod Groups

@@ -1,0 +1,4 @@
+pub mod Decimals
+pub mod Piecewise
+pub mod Bytes
+pub mod KeyText
