@@ -1,6 +1,6 @@
 -- What finding and listing answer, by what seeking gave.
 use Rattle.std.specs.Prelude.{◌≡◌, refl, List, [], ◌∷◌, ℕ, ◌≤◌, ◌<◌, length, drop, Option, Result, Ok, Err, IsErrAnd}
-use Rattle.std.proofs.Common.{◌∙◌, arith, eq-eqb}
+use Rattle.std.proofs.Common.{◌∙◌, ap, arith, eq-eqb, drop_at}
 use Rattle.fractions.specs.declared.Fraction.{Fraction}
 use Rattle.tables.specs.declared.Row.{Row}
 use Rattle.tables.specs.Layouts.{stock_rows}
@@ -47,6 +47,14 @@ module _ (used p q : ℕ) (m : List ℕ) where
   list_refused r h f =
       rw (listed_five (index_of p q rows) (drop (index_of p q rows) rows)) at
       (told_on used p q m (list_from p q) refl listed_as r h f)
+
+  pub list-here : {i : ℕ} {r : Row} → Ok (Here i r) ≡ sought used p q m
+      → gives (1 ∷ i ∷ r.numerator ∷ r.denominator ∷ r.quantity ∷ []) m ≡ stock_call stock_rows (list_from p q) used m
+  list-here {i} {r} e =
+      let (fine, (h, rest)) = told-here used p q m (list_from p q) refl e in
+      let there : drop i rows ≡ r ∷ h.behind =
+      ap (drop i) h.parts ∙ drop_at h.before (r ∷ h.behind) i h.index in
+      rw (h.place, there) at rest
 
   -- the rows from the place on are listed
   placed : (s : Sought) → Ok s ≡ sought used p q m
