@@ -61,3 +61,27 @@ module _ (k : List ℕ) (more : List Refusal) (values before after : List ℕ) w
 pub judged-clear : (k : List ℕ) → Ok tt ≡ judgement k → Clear (key_refusals k [])
 judged-clear k e =
     (gives-clear (key_refusals k []) [] [] [] refl [] [] (sym (told-key k [] [] [] [] e).1)).0
+
+-- an answer that the number of each fault tells
+module _ {A : Type 0} (answer_of : ℕ → A) (faulty : reasons.Refusal → A) (empty : answer_of 3 ≡ faulty EmptyKey)
+    (long : answer_of 4 ≡ faulty LongKey) (strange : answer_of 5 ≡ faulty StrangeKey)
+    (last_zero : answer_of 6 ≡ faulty OpenKey) where
+  abbrev Told : Result (Unit {0}) Fault → Type 0
+  Told (Ok _) = Unit {0}
+  Told (Err f) = answer_of (number_of f.refusal) ≡ faulty f.refusal
+
+  told_by_number : (k : List ℕ) (j : Result (Unit {0}) Fault) → j ≡ judgement k → Told j
+  unfolding judgement
+  told_by_number k j e = rw e (by_tests (empty_key k).1 (long_key k).1 (strange_key k).1 (open_key k).1)
+    where
+      by_tests : (a b c d : Bool)
+          → Told (cond a (Err (fault EmptyKey 0)) (cond b (Err (fault LongKey 96))
+          (cond c (Err (fault StrangeKey (first_strange k))) (cond d (Err (fault OpenKey (length k - 1))) (Ok tt)))))
+      by_tests true b c d = empty
+      by_tests false true c d = long
+      by_tests false false true d = strange
+      by_tests false false false true = last_zero
+      by_tests false false false false = tt
+
+  pub fault_told : (k : List ℕ) (f : Fault) → Err f ≡ judgement k → answer_of (number_of f.refusal) ≡ faulty f.refusal
+  fault_told k f e = told_by_number k (Err f) e

@@ -1,7 +1,8 @@
 -- The word in front of a text, read from its characters: its run is counted, zeros are told from the end, digits are
 -- read.
 use Rattle.std.specs.Prelude.{◌≡◌, refl, Bool, true, false, not, ◌&&◌, Option, Some, None, List, [], ◌∷◌, ℕ, zero, suc, ◌+◌, ◌*◌, ◌-◌, ◌^◌, ◌≤◌, ◌<◌, min, eqb, length, get_or, take, drop, Err}
-use Rattle.std.proofs.Common.{sym, ◌∙◌, ap, add-zero, add-one, drop_of_length-le, pow_mono, drop-cons, get_or-drop}
+use Rattle.std.proofs.Common.{sym, ◌∙◌, ap, add-zero, add-one, ne_eqb, pow_mono}
+use Rattle.std.proofs.Common.{drop_of_length-le, drop-cons, get_or-drop}
 use Rattle.std.specs.Bool.{beq}
 use Rattle.std.specs.List.{list_all, HoldsAt}
 use Rattle.std.specs.Option.{MatchOption}
@@ -74,6 +75,24 @@ module _ (k : List ℕ) (z : Bool) (n : ℕ) where
 
   pub ran-all : length k ≤ n → Ran s n → run_of s ≡ n
   ran-all l p = let step : run_of (drop n s) ≡ 0 = rw (past l) in omega arith
+
+  -- past the text the bits go on with z
+  pub bit_past : length k ≤ n → get_or s n z ≡ z
+  bit_past l = get_or-eq_default s z {n = n} (omega (arith, bits-length k z))
+
+-- a turned word is due: whether only ones, which are zeros turned, are left after n characters
+module _ (k : List ℕ) (n : ℕ) where
+  abbrev t : Bits
+  t = bits_read k true
+
+  pub ones-more : n < length k → (get_or k n 0 ≡ 49 → ⊥) → all_ones (drop n t) ≡ all_ones (drop (n + 1) t)
+  ones-more l h = rw (next k true n l, ne_eqb (get_or k n 0) 49 h, add-one)
+
+  pub ones_broken : n < length k → get_or k n 0 ≡ 49 → all_ones (drop n t) ≡ false
+  ones_broken l e = rw (next k true n l, e)
+
+  pub ones-all : length k ≤ n → all_ones (drop n t) ≡ true
+  ones-all l = rw (past k true n l)
 
 -- looking by the library: no character from there on is a 1
 pub zeros_are : (at : ℕ) (k : List ℕ)
