@@ -1,10 +1,14 @@
--- Of the order of texts by their bytes: what stands behind the front that they share decides.
+-- Of the order of texts by their bytes: what stands behind the front that they share decides; and it is the library's
+-- order of slices.
 use Rattle.std.specs.Prelude.{◌≡◌, refl, Bool, true, false, cond, List, [], ◌∷◌, ℕ, suc, ◌≤◌, ◌<◌, eqb, ltb, length, get_or, drop}
-use Rattle.std.proofs.Common.{◌∙◌, arith, le-ltb, lt-ltb, eqb-true, drop_of_length-le, drop-cons}
+use Rattle.std.proofs.Common.{◌∙◌, arith, le-ltb, lt-ltb, eq-eqb, ne_eqb, eqb-true, drop_of_length-le, drop-cons}
 use Rattle.std.proofs.Math.Decide.{dec_lt}
 use Rattle.std.proofs.lemmas.Bool.{eqb-false}
+use Rattle.std.specs.Cmp.Lexicographic.{slice_cmp}
+use Rattle.std.specs.Ordering.{nat_cmp}
 use Rattle.load.specs.Fronts.{shared_length}
 use Rattle.outcomes.specs.Comparing.{before, same, after}
+use Rattle.compare.specs.Answers.{standing_as}
 use Rattle.compare.specs.Bytes.{byte_standing}
 
 -- how texts stand that differ in their first byte, where both have one
@@ -59,3 +63,22 @@ module _ (j k : List ℕ) (i : ℕ) (e : i ≡ shared_length j k) where
 
   pub both_end : length j ≤ i → length k ≤ i → byte_standing j k ≡ same
   both_end l m = level ∙ rw (drop_of_length-le j l, drop_of_length-le k m)
+
+-- the library's order of slices
+abbrev Stands : List ℕ → List ℕ → Type 0
+Stands j k = standing_as (slice_cmp nat_cmp j k) ≡ byte_standing j k ∷ []
+
+stands-more : (a b : ℕ) (j k : List ℕ) → Dec (a < b) → Dec (b < a) → Stands j k → Stands (a ∷ j) (b ∷ k)
+unfolding byte_standing
+stands-more a b j k (yes l) d s = rw (lt-ltb a b l)
+stands-more a b j k (no l) (yes m) s =
+    let n : a ≡ b → ⊥ = λ e. omega arith in rw (le-ltb a b (omega arith), ne_eqb a b n, lt-ltb b a m)
+stands-more a b j k (no l) (no m) s =
+    let e : a ≡ b = omega arith in rw (le-ltb a b (omega arith), eq-eqb a b e, le-ltb b a (omega arith)) s
+
+pub stands : (j k : List ℕ) → Stands j k
+unfolding byte_standing
+stands [] [] = refl
+stands [] (b ∷ k) = refl
+stands (a ∷ j) [] = refl
+stands (a ∷ j) (b ∷ k) = stands-more a b j k (dec_lt a b) (dec_lt b a) (stands j k)

@@ -2,6 +2,8 @@
 use Rattle.std.specs.Prelude.{◌≡◌, ℕ, Result, Ok, Err}
 use Rattle.std.proofs.Common.{◌∙◌}
 use Rattle.std.specs.Result.{IsErrAnd}
+use Rattle.std.specs.Cmp.Lexicographic.{slice_cmp}
+use Rattle.std.specs.Ordering.{nat_cmp}
 use Rattle.std.specs.declared.cmp.Ordering.{Ordering}
 use mathlib.Core.List.{List, [], ◌∷◌}
 use Rattle.bits.specs.Texts.{bits_of_text}
@@ -14,7 +16,7 @@ use Rattle.scan.specs.Judging.{judgement}
 use Rattle.scan.proofs.Callers.{told_on, told-key, judged-clear}
 use Rattle.scan.specs.declared.Fault.{Fault}
 use Rattle.compare.specs.Answers.{standing_as}
-use Rattle.compare.specs.Bytes.{byte_standing}
+use Rattle.compare.proofs.Bytes.{stands}
 use Rattle.compare.proofs.KeyOrder.{byte_standing_lem}
 
 module _ (j k : List ℕ) where
@@ -35,8 +37,8 @@ module _ (j k : List ℕ) where
         → IsErrAnd r (λ d. d ≡ f.refusal) → leaves (answered 1 standing_as r) [] ≡ compare_text j k
     second_faulty r f d h = told_on k [] numbers [] [] standing_as r f d h ∙ first-key
 
-    pub stood : (o : Ordering) → Ok tt ≡ judgement k → standing_as o ≡ byte_standing j k ∷ []
+    pub stood : (o : Ordering) → Ok tt ≡ judgement k → o ≡ slice_cmp nat_cmp j k
         → leaves (given (standing_as o)) [] ≡ compare_text j k
     stood o d s =
-        rw (s, byte_standing_lem j k (judged-clear j e) (judged-clear k d))
+        rw (s, stands j k, byte_standing_lem j k (judged-clear j e) (judged-clear k d))
         ((told-key k [] numbers [] [] d).1 ∙ first-key)

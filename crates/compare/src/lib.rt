@@ -1,40 +1,15 @@
 // How two text keys stand, and the earlier of two.
 #![tactic(auto)]
 
-ghost use Rattle.std.specs.Prelude.{[], ◌∷◌, ◌≡◌};
+ghost use Rattle.std.specs.Prelude.{[], ◌≡◌};
 ghost use Rattle.outcomes.specs.Outcomes.{leaves};
 ghost use Rattle.outcomes.specs.Comparing.{compare_text};
 ghost use Rattle.refusals.specs.Answers.{answered};
 ghost use Rattle.compare.specs.Answers.{standing_as};
-ghost use Rattle.compare.specs.Bytes.{byte_standing};
 ghost use Rattle.compare.specs.Earlier.{Earlier};
 
 use refusals::Refusal;
 use std::cmp::Ordering;
-
-// How two texts stand by their bytes, one that goes on after the other: the first byte that they don't share decides.
-// The library's order of slices, j.cmp(k), would do, but takes 119.8 instructions where the bar of keys of wheels is
-// 117.6: it has no groups of eight.
-fn stand(j: &[u8], k: &[u8]) -> Ordering
-    ensures { standing_as result ≡ byte_standing j.now k.now ∷ [] }
-{
-    let i = load::same_front(j, k);
-    if i < j.len() {
-        if k.len() <= i {
-            return Ordering::Greater;
-        }
-        let a = j[i];
-        let b = k[i];
-        if a < b {
-            return Ordering::Less;
-        }
-        return Ordering::Greater;
-    }
-    if i < k.len() {
-        return Ordering::Less;
-    }
-    Ordering::Equal
-}
 
 // How the keys j and k stand. Keys without fault end in 1, but for the single 0: so the order of their bytes is that of
 // the strings extended by zeros.
@@ -43,7 +18,7 @@ pub fn compare(j: &[u8], k: &[u8]) -> Result<Ordering, Refusal>
 {
     scan::judge(j)?;
     scan::judge(k)?;
-    Ok(stand(j, k))
+    Ok(j.cmp(k))
 }
 
 // The earlier of two keys: the lent key itself, and the first of equal ones. Where comparing refuses, an empty part of

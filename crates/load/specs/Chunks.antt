@@ -2,7 +2,7 @@
 use Rattle.std.specs.Prelude.{◌≡◌, refl, List, [], ◌∷◌, ℕ, zero, suc, ◌+◌, ◌*◌, ◌≤◌, ◌<◌, length, get_or, take, drop}
 use Rattle.std.specs.Simd.{first_chunks}
 use Rattle.std.specs.Int.{w64, from_le_bytes}
-use Rattle.std.proofs.Common.{◌∙◌, arith, length-drop, length-take-le, drop-drop}
+use Rattle.std.proofs.Common.{sym, ◌∙◌, arith, length-drop, length-take-le, drop-drop}
 use Rattle.std.proofs.lemmas.Nat.{le_bytes_8}
 use Rattle.std.proofs.lemmas.List.{get_or-drop}
 use Rattle.bits.specs.Texts.{Bytes}
@@ -13,7 +13,7 @@ use Rattle.blocks.proofs.Bytewise.{eight-bytes}
 abbrev pub group_at : List ℕ → ℕ → List ℕ
 group_at k i = take 8 (drop (8 * i) k)
 
-pub bytes-take : (n : ℕ) (k : List ℕ) → Bytes k → Bytes (take n k)
+bytes-take : (n : ℕ) (k : List ℕ) → Bytes k → Bytes (take n k)
 bytes-take zero k small i = omega arith
 bytes-take (suc n) [] small i = omega arith
 bytes-take (suc n) (a ∷ k) small zero = small 0
@@ -36,3 +36,9 @@ chunk-at (suc n) k zero d h = refl
 chunk-at (suc n) k (suc i) d h =
     let next : 8 + 8 * i ≡ 8 * suc i = omega arith in
     chunk-at n (drop 8 k) i d (omega arith) ∙ rw (drop-drop, next)
+
+-- one number is of one group
+pub same-eight : (s t : List ℕ) → length s ≡ 8 → length t ≡ 8 → Bytes s → Bytes t
+    → from_le_bytes w64 s ≡ from_le_bytes w64 t → s ≡ t
+same-eight s t l m small low e =
+    sym (le_bytes_8 s (from_le_bytes w64 s) l small refl) ∙ le_bytes_8 t (from_le_bytes w64 s) m low e

@@ -1,15 +1,16 @@
 -- How far a text was found to have no strange character, one that is neither 0 nor 1: character by character, or by
 -- groups that are texts of bits.
-use Rattle.std.specs.Prelude.{◌≡◌, ◌≢◌, refl, Option, true, ◌||◌, ◌⊎◌, List, ◌++◌, ℕ, ◌+◌, ◌-◌, ◌≤◌, ◌<◌, eqb, length, take, drop}
+use Rattle.std.specs.Prelude.{◌≡◌, ◌≢◌, refl, Option, true, ◌||◌, ◌⊎◌, List, ◌++◌, ℕ, zero, suc, ◌+◌, ◌*◌, ◌-◌, ◌≤◌, ◌<◌, eqb, length, take, drop}
 use Rattle.std.specs.Option.{MatchOption, unwrap_or}
 use Rattle.std.specs.List.{AllWithin, HoldsAt}
 use Rattle.std.proofs.lemmas.Iterator.{index_from_first}
-use Rattle.std.proofs.Common.{sym, ◌∙◌, ap, inl, inr, arith, ne_eqb, drop_of_length-le, length-drop, take-append-drop, take_all, drop-drop}
+use Rattle.std.proofs.Common.{sym, ◌∙◌, ap, inl, inr, arith, ne_eqb, drop_of_length-le, length-drop, take-append-drop, drop-drop}
 use Rattle.std.proofs.lemmas.List.{length-map}
 use Rattle.std.proofs.Math.Seq.{drop-length}
 use Rattle.bits.proofs.Pieces.{drop-map}
 use Rattle.bits.specs.Texts.{char_of, text_of, bits_of_text}
 use Rattle.outcomes.specs.Refusals.{first_strange}
+use Rattle.load.specs.Chunks.{group_at, group-long}
 use Rattle.outcomes.proofs.TextKeys.{text-passed, text-plain}
 
 -- a text of bits: each character is 0 or 1
@@ -56,13 +57,22 @@ passed-group k {t} i n size e plain p =
     rw (plain, e, ← drop-drop n i k) (take-append-drop n (drop i k)) in
     omega (arith, rw cut at (text-passed (bits_of_text t) rest), length-map t (λ c. eqb c 49))
 
+-- so are all groups that are
+pub passed-groups : (k : List ℕ) (n : ℕ) → 8 * n ≤ length k → ((i : ℕ) → i < n → Plain (group_at k i))
+    → Passed k (8 * n)
+passed-groups k zero h p = passed_none k
+passed-groups k (suc n) h p =
+    let more : 8 * suc n ≡ 8 * n + 8 = omega arith in
+    rw more
+    (passed-group k (8 * n) 8 (group-long k n h) refl (p n (omega arith))
+    (passed-groups k n (omega arith) λ i l. p i (omega arith)))
+
 -- so is the rest of a text, where it lies within a group at the end
-pub passed-last : (k : List ℕ) {t : List ℕ} (m i n : ℕ) → t ≡ take n (drop m k) → length k ≤ m + n → m ≤ i
-    → i ≤ length k → Plain t → Passed k i → Passed k (length k)
+pub passed-last : (k : List ℕ) {t : List ℕ} (m i : ℕ) → t ≡ drop m k → m ≤ i → i ≤ length k → Plain t → Passed k i
+    → Passed k (length k)
 unfolding first_strange
-passed-last k {t} m i n e l h within plain p =
+passed-last k {t} m i whole h within plain p =
     let s = bits_of_text t in
-    let whole : t ≡ drop m k = e ∙ take_all n (drop m k) (omega (arith, length-drop m k)) in
     let place : i ≡ m + (i - m) = omega arith in
     let rest : drop i k ≡ text_of (drop (i - m) s) =
     ap (λ (x : ℕ). drop x k) place

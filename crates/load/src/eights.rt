@@ -32,40 +32,16 @@ fn bits_in(group: &[u8; 8]) -> u64
     (((low % 4294967296) * 16 + low / 4294967296) * 0x0804_0201 >> 24) % 256
 }
 
-// The group from a place on.
-fn group(k: &[u8], at: usize) -> &[u8; 8]
-    requires { at + 8 ≤ length k.now }
-    ensures { result.now ≡ take 8 (drop at k.now) }
-{
-    k[at..at + 8].try_into().unwrap()
-}
-
-// The same as a number.
-fn number(k: &[u8], at: usize) -> u64
-    requires { at + 8 ≤ length k.now }
-    ensures { low_bytes 8 result ≡ take 8 (drop at k.now) }
-{
-    u64::from_le_bytes(*group(k, at))
-}
-
 // Whether a text of eight characters or more has only 0 and 1. The last group may overlap the one before, so that no
-// character is looked at alone. As in `skip_same`, the library's chunks and iterators miss the bar of comparing.
+// character is looked at alone.
 pub fn are_plain(k: &[u8]) -> bool
     ensures { result ≡ true → Passed k.now (length k.now) }
 {
-    if k.len() < 8 {
-        return false;
+    let groups = k.as_chunks::<8>().0;
+    match k.last_chunk() {
+        Some(last) => is_plain(last) && groups.iter().all(is_plain),
+        None => false,
     }
-    let last = k.len() - 8;
-    let mut i = 0;
-    while i < last {
-        if is_plain(group(k, i)) {
-            i += 8;
-        } else {
-            return false;
-        }
-    }
-    is_plain(group(k, last))
 }
 
 // The bits of whole groups, up to the first that has another character than 0 and 1.
@@ -85,22 +61,12 @@ pub fn gather(k: &[u8]) -> Front
     Front { bits, passed }
 }
 
-// How many characters at the front are found to be the same in both texts, group by group. With the library's chunks,
-// zip and take_while here and in `same_front`, comparing two keys of wheels takes 139.1 instructions, and misses the bar
-// of 117.6.
+// How many characters at the front are found to be the same in both texts, group by group.
 pub fn skip_same(j: &[u8], k: &[u8]) -> usize
-    ensures { Shared j.now k.now result }
+    ensures shared { Shared j.now k.now result }
+    ensures within { (result ≤ length j.now) × (result ≤ length k.now) }
 {
-    let mut i = 0;
-    while i + 8 <= j.len() {
-        let next = i + 8;
-        if k.len() < next {
-            return i;
-        }
-        if number(j, i) != number(k, i) {
-            return i;
-        }
-        i = next;
-    }
-    i
+    let groups = j.as_chunks::<8>().0.iter().zip(k.as_chunks::<8>().0);
+    let same = groups.take_while(|(a, b)| u64::from_le_bytes(**a) == u64::from_le_bytes(**b));
+    8 * same.count()
 }

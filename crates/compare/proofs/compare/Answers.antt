@@ -10,4 +10,4 @@ returns-in_err-judge-2 c =
     second_faulty _ _ c.in_ok-judge.ensures _ _ c.in_err-judge-2.ensures c.from_residual-in_err-judge-2.ensures.1
 
 pub returns : goal.returns
-returns c = stood _ _ c.in_ok-judge.ensures _ c.in_ok-judge-2.ensures c.stand.ensures
+returns c = stood _ _ c.in_ok-judge.ensures _ c.in_ok-judge-2.ensures c.cmp.ensures
