@@ -1,5 +1,5 @@
 -- What is taken, by the size of its number, at the end, and by the kind that is due.
-use Rattle.std.specs.Prelude.{◌≡◌, Bool, true, false, None, Ok, Err}
+use Rattle.std.specs.Prelude.{◌≡◌, Bool, true, false, None, Ok, Err, List, ◌-◌, eqb, take, drop}
 use Rattle.std.proofs.Common.{sym, ap, arith}
 use Prim.Native.Nat.{ℕ, suc, ◌+◌, ◌*◌, ◌^◌, ◌≤◌, ◌<◌}
 use Rattle.std.proofs.Math.Numerals.{sub-one}
@@ -7,6 +7,9 @@ use borrow.Author.Tests.{lt-ltb, le-ltb}
 use Rattle.std.proofs.Math.ListN.{length}
 use Rattle.std.proofs.Math.Pow.{pow_mono}
 use Rattle.bits.specs.Strings.{Bits}
+use Rattle.bits.specs.Texts.{bits_of_text}
+use Rattle.bits.proofs.Memory.{lent_part}
+use Rattle.bits.proofs.Pieces.{drop-map}
 use Rattle.families.specs.Families.{ended}
 use Rattle.families.specs.Words.{word_of, first_number}
 use Rattle.families.proofs.Measured.{word-length}
@@ -15,6 +18,7 @@ use Rattle.keys.specs.Places.{left_at}
 use Rattle.scan.specs.declared.Kind.{Kind}
 use Rattle.scan.specs.declared.Place.{Place}
 use Rattle.refusals.specs.declared.Refusal.TheVariants.{OutOfRange}
+use Rattle.scan.specs.Characters.{bits_read}
 use Rattle.scan.specs.Taking.{is_turned, took, taken_from, taken_at}
 
 -- the same by the number's size: m digits follow its leading one
@@ -40,3 +44,8 @@ taken-ended z s h = rw h
 pub taken_at_lem : (s : Bits) (p : Place) (k : Kind) → p.due ≡ k
     → taken_from (is_turned k) (left_at s p.used (is_turned k)) ≡ taken_at s p
 taken_at_lem s p k e = ap (λ (x : Kind). taken_from (is_turned x) (left_at s p.used (is_turned x))) (sym e)
+
+-- at a place that is what is taken from the text behind the characters used, as it is lent
+pub taken-lent : (k : List ℕ) (p : Place) (d : Kind) (at : ℕ) → p.due ≡ d → drop at k ≡ drop p.used k
+    → taken_from (is_turned d) (bits_read (take (length k - at) (drop at k)) (is_turned d)) ≡ taken_at (bits_of_text k) p
+taken-lent k p d at e h = rw (lent_part, h, ← drop-map (λ c. eqb c 49) p.used k) (taken_at_lem (bits_of_text k) p d e)
