@@ -1,8 +1,8 @@
 // The ratio of a block's string, by forward convergents. Two functions, one for words and one for turned words, call
 // each other. A convergent is one number, denominator above numerator, and so is the answer: the last convergent, or,
 // below 2^32, the characters used before the quotient that left the range. With one number each, the calls become
-// jumps, and one function becomes a loop. The scope names the two functions; one loop over both kinds, with convergents as
-// fractions, takes 301.7 instructions for a column of wheels, and misses the bar of 288.3.
+// jumps, and one function becomes a loop. The scope names the two functions; one loop over both kinds, with convergents
+// as fractions, takes 301.7 instructions for a column of wheels, and misses the bar of 288.3.
 ghost use Rattle.std.specs.Prelude.{true, false, ◌≡◌};
 ghost use Rattle.blocks.specs.Blocks.{bits_of_block};
 ghost use Rattle.fractions.specs.Convergents.{convergent};

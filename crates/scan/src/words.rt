@@ -25,8 +25,8 @@ pub fn window(b: Block, used: usize) -> u64
     0
 }
 
-// The ones in front of w, counted until a zero is met, or until there are more than 31. The scope names this form, a loop
-// that yields the count by break, so it stands here and in `texts`.
+// The ones in front of w, counted until a zero is met, or until there are more than 31. The scope names this form, a
+// loop that yields the count by break; so it stands here and in `texts`.
 fn run(w: u64) -> u32
     ensures { Counted w result }
 {

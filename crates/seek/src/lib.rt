@@ -1,5 +1,5 @@
-// Where a ratio stands in a stock table. Memory and count, numerator and denominator come apart, as C hands them over, and
-// no fact binds them, since each call judges them: structs for them would only be made at a call to be taken apart in it.
+// Where a ratio stands in a stock table. Memory and count, numerator and denominator come apart, as C hands them over,
+// and no fact binds them, since each call judges them: structs for them would only be made to be taken apart.
 #![tactic(auto)]
 
 ghost use Rattle.std.specs.Prelude.{◌≡◌};
