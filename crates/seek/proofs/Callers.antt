@@ -29,6 +29,5 @@ module _ (used p q : ℕ) (m : List ℕ) where
     pub told-given : {v l : List ℕ} → Clear (stock_refusals (room_of stock_rows m) rows c) → rest ≡ whole → v ≡ values
         → l ≡ stock_memory stock_rows rows c m → gives v l ≡ whole
     told-given clear e f g =
-        (λ i. gives (f i) (g i))
-        ∙ sym (clear-called (stock_refusals (room_of stock_rows m) rows c) values m (stock_memory stock_rows rows c m) clear)
-        ∙ e
+        let left = stock_refusals (room_of stock_rows m) rows c in
+        (λ i. gives (f i) (g i)) ∙ sym (clear-called left values m (stock_memory stock_rows rows c m) clear) ∙ e
