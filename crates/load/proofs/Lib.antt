@@ -1,3 +1,4 @@
 pub mod Passing
 pub mod Bytes
 pub mod Groups
+pub mod Fronts
