@@ -1,4 +1,5 @@
 pub mod Bytes
+pub mod EarlierKeys
 pub mod KeyOrder
 pub mod Replies
 pub mod Told

@@ -1,2 +1,4 @@
+pub mod Copying
 pub mod Ends
+pub mod Remaining
 pub mod Replies

@@ -1,4 +1,5 @@
 pub mod Puts
+pub mod Leaves
 pub mod Replies
 pub mod Lines
 pub mod Going

@@ -42,3 +42,7 @@ puts-first {t = t} {m = m} size h l p = record {
       let rest = drop-append-le (length t) (take size m) (drop size m) (omega arith) in
       rw (p.memory, append_assoc, ← rest, take-append-drop) refl;
 }
+
+-- the same text, told otherwise
+pub puts_as : {t u m e : List ℕ} {r : ℕ} → t ≡ u → Puts t m r e → Puts u m r e
+puts_as e p = rw e at p

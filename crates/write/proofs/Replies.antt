@@ -13,7 +13,7 @@ use Rattle.outcomes.specs.Refusals.{zero_denominator, short_buffer}
 use Rattle.outcomes.specs.Writing.{counts, write_text, write_column}
 use Rattle.put.specs.Putting.{text_put, column_put}
 use Rattle.refusals.specs.declared.Refusal.{Refusal}
-use Rattle.refusals.specs.declared.Refusal.TheVariants.{WrongSize}
+use Rattle.refusals.specs.declared.Refusal.TheVariants.{WrongSize, ZeroDenominator}
 use Rattle.refusals.specs.Answers.{answered}
 use Rattle.refusals.specs.Buffers.{Put}
 use Rattle.refusals.specs.Numbers.{number_of}
@@ -64,3 +64,11 @@ module _ {p q : ℕ} (small : p < 2 ^ 32) (low : q < 2 ^ 32) {s : Spelled} (e : 
       let bytes = bytes-same 12 (bits_of_block s.block) key (block-holds spells small low) in
       told 12 (column_of key) m
       (put ∙ λ i. cond (ltb (length m) 12) (Err WrongSize, m) (Ok (length (key-held i)), in_front (bytes i) m))
+
+pub text-zero : (p q : ℕ) (m : List ℕ) → Err ZeroDenominator ≡ spelling p q → refuses 1 2 m ≡ write_text p q m
+unfolding write_text
+text-zero p q m = told-zero p q _ _
+
+pub column-zero : (p q : ℕ) (m : List ℕ) → Err ZeroDenominator ≡ spelling p q → refuses 1 2 m ≡ write_column p q m
+unfolding write_column
+column-zero p q m = told-zero p q _ _
