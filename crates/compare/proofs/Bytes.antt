@@ -1,6 +1,7 @@
 -- Of the order of texts by their bytes: what stands behind the front that they share decides; and it is the library's
 -- order of slices.
-use Rattle.std.specs.Prelude.{◌≡◌, refl, Bool, true, false, cond, List, [], ◌∷◌, ℕ, suc, ◌≤◌, ◌<◌, eqb, ltb, length, get_or, drop}
+use Rattle.std.specs.Prelude.{◌≡◌, refl, Bool, true, false, cond, List, [], ◌∷◌, ℕ, suc, ◌≤◌, ◌<◌, eqb, ltb}
+use Rattle.std.specs.Prelude.{length, get_or, drop}
 use Rattle.std.proofs.Common.{◌∙◌, arith, le-ltb, lt-ltb, eq-eqb, ne_eqb, eqb-true, drop_of_length-le, drop-cons}
 use Rattle.std.proofs.Math.Decide.{dec_lt}
 use Rattle.std.proofs.lemmas.Bool.{eqb-false}
