@@ -20,11 +20,6 @@ shared_length (a ∷ j) (b ∷ k) = cond (eqb a b) (suc (shared_length j k)) 0
 abbrev pub Shared : List ℕ → List ℕ → ℕ → Type 0
 Shared j k i = shared_length j k ≡ i + shared_length (drop i j) (drop i k)
 
-shared_empty : (j : List ℕ) → shared_length j [] ≡ 0
-unfolding shared_length
-shared_empty [] = refl
-shared_empty (a ∷ j) = refl
-
 -- what stands in front of both is shared
 shared-front : (t j k : List ℕ) → shared_length (t ++ j) (t ++ k) ≡ length t + shared_length j k
 unfolding shared_length
@@ -90,6 +85,7 @@ shared-groups (suc n) (suc m) j k h l small low =
         let next : 8 + 8 * i ≡ 8 * (1 + i) = omega arith in
         let same : take 8 j ≡ take 8 k =
         same-eight (take 8 j) (take 8 k) (group-long j 0 (omega arith)) (group-long k 0 (omega arith))
-        (group-small j 0 small) (group-small k 0 low) (eqb-true (from_le_bytes w64 (take 8 j)) (from_le_bytes w64 (take 8 k)) e) in
+        (group-small j 0 small) (group-small k 0 low)
+        (eqb-true (from_le_bytes w64 (take 8 j)) (from_le_bytes w64 (take 8 k)) e) in
         let first = shared-group j k 0 (shared_none j k) 8 (group-long j 0 (omega arith)) refl same in
         omega (arith, first, rw (drop-drop (8 * i) 8 j, drop-drop (8 * i) 8 k, next) at rest)

@@ -1,7 +1,7 @@
 -- What a judgement tells a call that judges a text key first: its outcome where there is a fault, and else that the
 -- rest of its refusals decide. A call that judges by `?` states `told_on` for its own outcome, with the six arguments
--- before the result written out. It gives that `c.in_err-judge.ensures` and `c.from_residual.ensures.1` at the exit, and
--- behind the `?` it gives `c.in_ok-judge.ensures` to `told-key`.
+-- before the result written out. It gives that `c.in_err-judge.ensures` and `c.from_residual.ensures.1` at the exit,
+-- and behind the `?` it gives `c.in_ok-judge.ensures` to `told-key`.
 use Rattle.std.specs.Prelude.{◌≡◌, refl, Bool, true, false, cond, List, [], length, Result, Ok, Err}
 use Rattle.std.proofs.Common.{sym, ltb-false}
 use Prim.Native.Nat.{ℕ, ◌-◌, ◌≤◌}

@@ -47,5 +47,6 @@ taken_at_lem s p k e = ap (λ (x : Kind). taken_from (is_turned x) (left_at s p.
 
 -- at a place that is what is taken from the text behind the characters used, as it is lent
 pub taken-lent : (k : List ℕ) (p : Place) (d : Kind) (at : ℕ) → p.due ≡ d → drop at k ≡ drop p.used k
-    → taken_from (is_turned d) (bits_read (take (length k - at) (drop at k)) (is_turned d)) ≡ taken_at (bits_of_text k) p
+    → taken_from (is_turned d) (bits_read (take (length k - at) (drop at k)) (is_turned d))
+    ≡ taken_at (bits_of_text k) p
 taken-lent k p d at e h = rw (lent_part, h, ← drop-map (λ c. eqb c 49) p.used k) (taken_at_lem (bits_of_text k) p d e)
