@@ -45,7 +45,8 @@ byte-power (suc n) =
     rw (more, pow-add 2 (8 * n) 8, byte-power n, pow-suc 256 n)
 
 -- the top byte of a string's number is the number of its first eight bits
-byte_top : (n v : ℕ) (f d : Bits) → length f ≡ 8 → length d ≡ 8 * n → number_from v (f ++ d) / 256 ^ n % 256 ≡ number_of f
+byte_top : (n v : ℕ) (f d : Bits) → length f ≡ 8 → length d ≡ 8 * n
+    → number_from v (f ++ d) / 256 ^ n % 256 ≡ number_of f
 byte_top n v f d k l =
     let room : number_of d < 256 ^ n = rw (l, byte-power) at (number-lt d) in
     rw (
