@@ -41,23 +41,23 @@ settled : {X : Type 0} (v : ℕ) (values : X → List ℕ) (back : List ℕ → 
     → (o : Outcome) → Determined (answered v values) o
 settled v values back told o = determined (answered v values) (told_by v values back) told o
 
-one-told : (r : Result ℕ Refusal) → told_by 1 one_as one_in (answered 1 one_as r) ≡ r
+pub one-told : (r : Result ℕ Refusal) → told_by 1 one_as one_in (answered 1 one_as r) ≡ r
 one-told = answered-told 1 one_as one_in (λ n. refl)
 
-none-told : (r : Result (Unit {0}) Refusal) → told_by 0 none_as none_in (answered 0 none_as r) ≡ r
+pub none-told : (r : Result (Unit {0}) Refusal) → told_by 0 none_as none_in (answered 0 none_as r) ≡ r
 none-told = answered-told 0 none_as none_in (λ u. refl)
 
-stocked-told : (r : Result Stocked Refusal) → told_by 3 stocked_as stocked_in (answered 3 stocked_as r) ≡ r
+pub stocked-told : (r : Result Stocked Refusal) → told_by 3 stocked_as stocked_in (answered 3 stocked_as r) ≡ r
 stocked-told = answered-told 3 stocked_as stocked_in (λ s. refl)
 
-found-told : (r : Result Found Refusal) → told_by 2 found_as found_in (answered 2 found_as r) ≡ r
+pub found-told : (r : Result Found Refusal) → told_by 2 found_as found_in (answered 2 found_as r) ≡ r
 found-told = answered-told 2 found_as found_in (λ f. refl)
 
 listed_back : (o : Option lookup.Listed) → listed_in (listed_as o) ≡ o
 listed_back (Some l) = refl
 listed_back None = refl
 
-listed-told : (r : Result (Option lookup.Listed) Refusal) → told_by 5 listed_as listed_in (answered 5 listed_as r) ≡ r
+pub listed-told : (r : Result (Option lookup.Listed) Refusal) → told_by 5 listed_as listed_in (answered 5 listed_as r) ≡ r
 listed-told = answered-told 5 listed_as listed_in listed_back
 
 pub write_text_unique : (p q : ℕ) (m : List ℕ) → Determined (answered 2 written_as) (write_text p q m)
