@@ -62,7 +62,7 @@ impl Table<'_> {
     }
 }
 
-// The row of p/q. A table that is only read is lent to one call, so its two parts stay arguments.
+// The row of p/q. A table that is only read has no count to go on with, so its two parts stay arguments.
 pub fn find(rt: &impl Print, memory: &[u8], used: usize, p: u32, q: u32) -> io::Result<()> {
     print!(rt; "find ")?;
     case(rt, memory, used, p, q)?;
