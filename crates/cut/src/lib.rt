@@ -29,13 +29,48 @@ fn kept(k: &[u8], n: usize) -> usize
     }
 }
 
-// The first n characters of k at the front of out.
+// The first N characters. The compiler knows how many, so by way of an array it makes a load and a store of them; a
+// number that only the call knows would become a call of the C library, and the archive asks for none.
+fn copy_group<const N: usize>(k: &[u8], out: &mut [u8])
+    requires key { N ≤ length k.now }
+    requires room { N ≤ length out.old }
+    ensures { out.new ≡ in_front (take N k.now) out.old }
+{
+    let group: [u8; N] = k[..N].try_into().unwrap();
+    out[..N].copy_from_slice(&group);
+}
+
+// A few characters, one at a time.
+fn copy_few(k: &[u8], n: usize, out: &mut [u8])
+    requires key { n ≤ length k.now }
+    requires room { n ≤ length out.old }
+    ensures { out.new ≡ in_front (take n k.now) out.old }
+{
+    for at in 0..n {
+        out[at] = k[at];
+    }
+}
+
+// The first n characters of k at the front of out, in groups of eight, or two of four where eight are too many. The
+// last group may overlap the one before it.
 fn copy(k: &[u8], n: usize, out: &mut [u8])
     requires key { n ≤ length k.now }
     requires room { n ≤ length out.old }
     ensures { out.new ≡ in_front (take n k.now) out.old }
 {
-    out[..n].copy_from_slice(&k[..n]);
+    if n < 4 {
+        copy_few(k, n, out);
+        return;
+    }
+    if n < 8 {
+        copy_group::<4>(k, out);
+        copy_group::<4>(&k[n - 4..], &mut out[n - 4..]);
+        return;
+    }
+    for group in 0..(n - 1) / 8 {
+        copy_group::<8>(&k[8 * group..], &mut out[8 * group..]);
+    }
+    copy_group::<8>(&k[n - 8..], &mut out[n - 8..]);
 }
 
 // The first n characters of a key at the front of out, without zeros at the end; the single 0 if no 1 remains.
