@@ -1,6 +1,6 @@
 -- What the leaves that have room put out, and that it takes few bytes.
-use Rattle.std.specs.Prelude.{◌≡◌, List, ℕ, ◌^◌, ◌≤◌, ◌<◌, ltb, length, Result, Ok}
-use Rattle.std.proofs.Common.{le-ltb}
+use Rattle.std.specs.Prelude.{◌≡◌, refl, List, ℕ, ◌^◌, ◌≤◌, ◌<◌, ltb, length, Result, Ok, Err, MatchResult}
+use Rattle.std.proofs.Common.{le-ltb, sym, subst}
 use Rattle.std.proofs.lemmas.List.{length-map}
 use Rattle.bits.specs.Strings.{Bits, closed}
 use Rattle.bits.specs.Texts.{char_of, text_of, in_front}
@@ -14,34 +14,41 @@ use Rattle.refusals.specs.declared.Refusal.{Refusal}
 use Rattle.refusals.specs.Buffers.{Put}
 use Rattle.list.specs.Puts.{Puts}
 
-same_ok : {x y : ℕ} → ◌≡◌ {A = Result ℕ Refusal} (Ok x) (Ok y) → x ≡ y
-same_ok e = cc
+-- a leaf doesn't refuse, and what it gives is so
+abbrev pub Gives : Result ℕ Refusal → (ℕ → Type 0) → Type 0
+Gives x so = MatchResult x so (λ _. ⊥)
 
 -- a leaf that wants size bytes and has them puts out its text
-room-puts : (size : ℕ) (t m : List ℕ) (r : ℕ) (e : List ℕ) → size ≤ length m
-    → Put (ltb (length m) size) m (in_front t m) (length t) (Ok r) e → Puts t m r e
-room-puts size t m r e h p =
-    let both : ◌≡◌ {A = Result ℕ Refusal × List ℕ} (Ok r, e) (Ok (length t), in_front t m) =
+room-puts : (size : ℕ) (t m : List ℕ) (x : Result ℕ Refusal) (e : List ℕ) → size ≤ length m
+    → Put (ltb (length m) size) m (in_front t m) (length t) x e → Gives x (λ r. Puts t m r e)
+room-puts size t m x e h p =
+    let both : ◌≡◌ {A = Result ℕ Refusal × List ℕ} (x, e) (Ok (length t), in_front t m) =
     rw (le-ltb (length m) size h) at p in
-    record { count = same_ok (λ i. (both i).0); memory = λ i. (both i).1 }
+    let given : x ≡ Ok (length t) = λ i. (both i).0 in
+    subst (λ y. Gives y (λ r. Puts t m r e)) (sym given) (record { count = refl; memory = λ i. (both i).1 })
 
-module _ (n : ℕ) (m : List ℕ) (r : ℕ) (e : List ℕ) (h : 10 ≤ length m)
-    (p : ◌≡◌ {A = Result ℕ Refusal × List ℕ} (Ok r, e) (decimal_put n m)) where
-  pub decimal_puts : Puts (decimal_of n) m r e
+-- what follows from what a leaf gives
+gives-so : (x : Result ℕ Refusal) {so then : ℕ → Type 0} → ((r : ℕ) → so r → then r) → Gives x so → Gives x then
+gives-so (Ok r) f g = f r g
+gives-so (Err e) f g = g
+
+module _ (n : ℕ) (m : List ℕ) (x : Result ℕ Refusal) (e : List ℕ) (h : 10 ≤ length m)
+    (p : ◌≡◌ {A = Result ℕ Refusal × List ℕ} (x, e) (decimal_put n m)) where
+  pub decimal_puts : Gives x (λ r. Puts (decimal_of n) m r e)
   unfolding decimal_put
-  decimal_puts = room-puts 10 (decimal_of n) m r e h p
+  decimal_puts = room-puts 10 (decimal_of n) m x e h p
 
-  pub decimal_few : n < 2 ^ 32 → r ≤ 10
-  decimal_few small = rw decimal_puts.count (decimal_size n small)
+  pub decimal_few : n < 2 ^ 32 → Gives x (λ r. r ≤ 10)
+  decimal_few small = gives-so x (λ r q. rw q.count (decimal_size n small)) decimal_puts
 
-module _ (b : Block) (m : List ℕ) (r : ℕ) (e : List ℕ) (h : 96 ≤ length m)
-    (p : ◌≡◌ {A = Result ℕ Refusal × List ℕ} (Ok r, e) (text_put (bits_of_block b) m)) where
+module _ (b : Block) (m : List ℕ) (x : Result ℕ Refusal) (e : List ℕ) (h : 96 ≤ length m)
+    (p : ◌≡◌ {A = Result ℕ Refusal × List ℕ} (x, e) (text_put (bits_of_block b) m)) where
   abbrev key : Bits
   key = closed (bits_of_block b)
 
-  pub text-puts : Puts (text_of key) m r e
+  pub text-puts : Gives x (λ r. Puts (text_of key) m r e)
   unfolding text_put
-  text-puts = room-puts 96 (text_of key) m r e h (rw (← (length-map key char_of)) at p)
+  text-puts = room-puts 96 (text_of key) m x e h (rw (← (length-map key char_of)) at p)
 
-  pub text_few : r ≤ 96
-  text_few = rw (text-puts.count, length-map) (key-length b)
+  pub text_few : Gives x (λ r. r ≤ 96)
+  text_few = gives-so x (λ r q. rw (q.count, length-map) (key-length b)) text-puts

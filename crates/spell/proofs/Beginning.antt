@@ -3,7 +3,7 @@
 use Rattle.std.specs.Prelude.{◌≡◌, refl, true, false, List, [], ◌∷◌, ◌++◌, Result, Ok}
 use Rattle.std.specs.Prelude.{ℕ, zero, suc, ◌+◌, ◌/◌, ◌%◌, ◌^◌, ◌≤◌, ◌<◌}
 use Rattle.std.proofs.Math.Path.{sym}
-use Rattle.std.proofs.Common.{◌∙◌, ap, div-add-mod', mod-lt, one-add, arith, ne_eqb, length-append}
+use Rattle.std.proofs.Common.{◌∙◌, ap, div-add-mod', mod-lt, one-add, arith, ne_eqb, lit≤, length-append}
 use Rattle.std.proofs.Math.ListN.{length}
 use Rattle.bits.specs.Strings.{Bits, turn, closed}
 use Rattle.bits.proofs.Trim.{closed-same}
@@ -24,6 +24,7 @@ use Rattle.spell.specs.Spelling.{spelling, spelt, to_come, words_to_come, Room}
 pub record Begun (p q : ℕ) (front : Bits) (count : ℕ) : Type 0 where
   pub whole : written words1983 (form_of p q) ≡ front ++ words_to_come q (p % q)
   pub counted : count_of (form_of p q) ≡ count + length (to_come q (p % q))
+  pub some : 1 ≤ length front
 
 from_one : (a : ℕ) (l : List ℕ) → 1 ≤ a
     → (written words1983 (a ∷ l) ≡ true ∷ (word_of a ++ turn (spelled words1983 l))) × (count_of (a ∷ l) ≡ 1 + length l)
@@ -54,6 +55,7 @@ module _ (p : ℕ) {q : ℕ} (positive : 1 ≤ q) where
       record {
         whole = ap (written words1983) zero-first;
         counted = ap count_of zero-first ∙ omega arith;
+        some = lit≤ tt;
       }
 
   module _ (above : 1 ≤ p / q) where
@@ -65,6 +67,7 @@ module _ (p : ℕ) {q : ℕ} (positive : 1 ≤ q) where
     begun-from = record {
       whole = whole;
       counted = ap count_of form ∙ (from_one (p / q) (to_come q (p % q)) above).1;
+      some = omega arith;
     }
 
     pub whole-fits : p < 2 ^ 32 → q < 2 ^ 32 → 1 + length (word_of (p / q)) ≤ 96
@@ -75,6 +78,8 @@ module _ {p q : ℕ} {front : Bits} {count : ℕ} (positive : 1 ≤ q) (b : Begu
   pub begun-room : p < 2 ^ 32 → q < 2 ^ 32 → Room q (p % q) front count
   begun-room high low = record {
     turned = mod-lt p positive;
+    range = low;
+    some = b.some;
     room = front-fits positive high low front (words_to_come q (p % q)) b.whole;
     few = omega (arith, b.counted, count_size words1983 p q positive (omega arith) (omega arith));
   }

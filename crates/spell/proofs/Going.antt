@@ -85,6 +85,15 @@ module _ {d r : ℕ} {line : Bits} {count : ℕ} (some : 1 ≤ r) (here : Room d
       record {
         here = record {
           turned = left-below;
+          range = omega (arith, t-below, here.turned, here.range);
+          some = omega (
+            arith,
+            ap length f,
+            length-append next (word_of b),
+            ap length e,
+            length-append line (turn (word_of a)),
+            here.some,
+          );
           room = rw (← length-append, same, length-append) here.room;
           few = omega (arith, ap length come, here.few);
         };

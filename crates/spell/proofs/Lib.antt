@@ -1,5 +1,5 @@
-mod Lines
-mod Measures
-mod Words
-mod Going
-mod Beginning
+pub mod Lines
+pub mod Measures
+pub mod Words
+pub mod Going
+pub mod Beginning

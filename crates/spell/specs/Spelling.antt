@@ -1,5 +1,5 @@
 -- What spelling p/q gives: the block of its key, the quotients written, and the greatest common divisor.
-use Rattle.std.specs.Prelude.{true, cond, List, ℕ, ◌+◌, ◌≤◌, ◌<◌, eqb, length, Result, Ok, Err}
+use Rattle.std.specs.Prelude.{true, cond, List, ℕ, ◌+◌, ◌^◌, ◌≤◌, ◌<◌, eqb, length, Result, Ok, Err}
 use Rattle.bits.specs.Strings.{Bits, turn}
 use Rattle.blocks.specs.Blocks.{block_of}
 use Rattle.families.proofs.Published.{words1983}
@@ -28,5 +28,7 @@ words_to_come d r = turn (spelled words1983 (to_come d r))
 -- the words still to come fit behind what is written
 pub record Room (d r : ℕ) (line : Bits) (quotients : ℕ) : Type 0 where
   pub turned : r < d
+  pub range : d < 2 ^ 32
+  pub some : 1 ≤ length line
   pub room : length line + length (words_to_come d r) ≤ 96
   pub few : quotients + length (to_come d r) ≤ 46

@@ -5,7 +5,7 @@ ghost use Rattle.std.specs.Prelude.{◌*◌, ◌^◌, ◌≤◌, ◌<◌};
 use blocks::Block;
 use std::marker::Model;
 
-#[derive(Drop)]
+#[derive(Clone, Copy)]
 pub struct Line {
     number: u128,
     bits: u32,
@@ -21,6 +21,12 @@ impl Model for Line {
     ghost view = { string_of };
 
     ghost invariant = { IsLine };
+
+    ghost use Rattle.spell.specs.Lines.{line_of, line-back};
+
+    ghost inverse = { line_of };
+
+    ghost inverse_ok = { λ l line. line-back l line };
 }
 
 // The k for which 2^k is the highest binary digit of a. Setting the lowest digit doesn't change it: so the compiler has

@@ -1,1 +1,1 @@
-mod Putting
+pub mod Putting
