@@ -73,10 +73,15 @@ fn put_key(key: Block, out: &mut [u8]) -> usize
     put::put_text(key, out).unwrap()
 }
 
-// The word refused, and the number.
+// The word refused, and the number. Nearly every line that is refused is malformed: there the answer is one text, since
+// a number's digits take longer than the rest of such a line.
 fn refuse(refusal: Refusal, out: &mut [u8; ROOM]) -> usize
     ensures { Puts (refused_line (number_of refusal)) out.old result out.new }
 {
+    if let Refusal::Malformed = refusal {
+        out[..11].copy_from_slice(b"refused 10\n");
+        return 11;
+    }
     out[..8].copy_from_slice(b"refused ");
     8 + put_number(refusal.number(), b'\n', &mut out[8..])
 }
