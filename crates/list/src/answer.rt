@@ -73,8 +73,8 @@ fn put_key(key: Block, out: &mut [u8]) -> usize
     put::put_text(key, out).unwrap()
 }
 
-// The word refused, and the number. Nearly every line that is refused is malformed: there the answer is one text, since
-// a number's digits take longer than the rest of such a line.
+// The word refused, and the number. The answer to a malformed line is one text, since putting out a number's digits
+// takes longer than all else that is done for a short line.
 fn refuse(refusal: Refusal, out: &mut [u8; ROOM]) -> usize
     ensures { Puts (refused_line (number_of refusal)) out.old result out.new }
 {
